@@ -1,0 +1,10 @@
+-- The laws of the definitions.
+pub mod Decide
+pub mod Paths
+pub mod Tests
+pub mod Deadness
+pub mod Statuses
+pub mod News
+pub mod Chains
+pub mod Pruning
+pub mod Examples

@@ -1,0 +1,90 @@
+-- The marked examples of document 01, as one list of cases. proofs/Examples.antt proves them of the definitions.
+-- Assumes nothing.
+use mathlib.Core.Bool.{true}
+use mathlib.Core.List.{List, [], _∷_, _++_, map}
+use mathlib.Core.Option.{Option, some, none}
+use Prim.Native.Nat.{ℕ, zero, suc}
+use Rattle.gid.specs.declared.Update.{Update}
+use Rattle.gid.specs.declared.Update.the-variants.{Step, Terminal, Close}
+use Rattle.gid.specs.Histories.{History}
+use Rattle.gid.specs.Statuses.{isClosed, isDead, status}
+use Rattle.gid.specs.News.{news}
+use Rattle.gid.specs.Refusals.{Given, refusal}
+
+-- What comes of an update: it is refused with a number, or accepted with its news.
+pub data Outcome : Type 0 where
+  refused : ℕ → Outcome
+  accepted : List ℕ → Outcome
+
+abbrev pub countSteps : History → ℕ
+countSteps [] = 0
+countSteps (Step u v ∷ h) = suc (countSteps h)
+countSteps (Terminal u ∷ h) = countSteps h
+countSteps (Close u ∷ h) = countSteps h
+
+-- What the tables say after a history, with tables that are long enough.
+unfoldable pub given : ℕ → ℕ → History → Given
+given n limit h = record { n = n; limit = limit; steps = countSteps h; long = true; closed = isClosed h; dead = isDead h }
+
+-- The outcome of an update after a history, and the history after it.
+unfoldable pub outcome : ℕ → ℕ → History → Update → Outcome
+outcome n limit h x = elim (refusal (given n limit h) x) [ none ↦ accepted (news n h x) | some k ↦ refused k ]
+
+unfoldable pub after : ℕ → ℕ → History → Update → History
+after n limit h x = elim (refusal (given n limit h) x) [ none ↦ x ∷ h | some k ↦ h ]
+
+unfoldable pub afterAll : ℕ → ℕ → History → List Update → History
+afterAll n limit h [] = h
+afterAll n limit h (x ∷ l) = afterAll n limit (after n limit h x) l
+
+-- What is seen of a case: the outcome of its last update, and the statuses of the states 0, 1 and 2 after it.
+pub record Seen : Type 0 where
+  pub outcome : Outcome
+  pub statuses : List ℕ
+
+-- A case: the step limit, the updates sent in order, the last of them, and what must be seen. "Tables are fresh, with n = 3 and limit 4 unless said."
+pub record Case : Type 0 where
+  pub limit : ℕ
+  pub before : List Update
+  pub last : Update
+  pub expected : Seen
+
+unfoldable pub seen : Case → Seen
+seen c =
+    let h = afterAll 3 (c .limit) [] (c .before) in
+    let g = after 3 (c .limit) h (c .last) in
+    record { outcome = outcome 3 (c .limit) h (c .last); statuses = status g 0 ∷ status g 1 ∷ status g 2 ∷ [] }
+
+abbrev at : ℕ → List Update → Update → Outcome → List ℕ → Case
+at limit before last o s = record { limit = limit; before = before; last = last; expected = record { outcome = o; statuses = s } }
+
+unfoldable pub cases : List Case
+cases =
+    -- 1. C 0: news 0 dead.
+    at 4 [] (Close 0) (accepted (0 ∷ [])) (4 ∷ 0 ∷ 0 ∷ []) ∷
+    -- 2. E 0 0, C 0: news 0 dead at the close.
+    at 4 (Step 0 0 ∷ []) (Close 0) (accepted (0 ∷ [])) (4 ∷ 0 ∷ 0 ∷ []) ∷
+    -- 3. E 0 1, E 1 0, C 0: status 2, 1, 0.
+    at 4 (Step 0 1 ∷ Step 1 0 ∷ []) (Close 0) (accepted []) (2 ∷ 1 ∷ 0 ∷ []) ∷
+    -- 4. Then C 1: news 0 and 1, dead.
+    at 4 (Step 0 1 ∷ Step 1 0 ∷ Close 0 ∷ []) (Close 1) (accepted (0 ∷ 1 ∷ [])) (4 ∷ 4 ∷ 0 ∷ []) ∷
+    -- 5. E 0 1, E 1 0, E 1 2, C 0, C 1: no news, status 2, 2, 1.
+    at 4 (Step 0 1 ∷ Step 1 0 ∷ Step 1 2 ∷ Close 0 ∷ []) (Close 1) (accepted []) (2 ∷ 2 ∷ 1 ∷ []) ∷
+    -- 6. Case 5, then C 2: news 0, 1, 2, dead.
+    at 4 (Step 0 1 ∷ Step 1 0 ∷ Step 1 2 ∷ Close 0 ∷ Close 1 ∷ []) (Close 2) (accepted (0 ∷ 1 ∷ 2 ∷ [])) (4 ∷ 4 ∷ 4 ∷ []) ∷
+    -- 7. Case 5, then T 2: news 0, 1, 2, live.
+    at 4 (Step 0 1 ∷ Step 1 0 ∷ Step 1 2 ∷ Close 0 ∷ Close 1 ∷ []) (Terminal 2) (accepted (0 ∷ 1 ∷ 2 ∷ [])) (3 ∷ 3 ∷ 3 ∷ []) ∷
+    -- 8. T 0, C 0: news 0 live at T, none at C.
+    at 4 [] (Terminal 0) (accepted (0 ∷ [])) (3 ∷ 0 ∷ 0 ∷ []) ∷
+    at 4 (Terminal 0 ∷ []) (Close 0) (accepted []) (3 ∷ 0 ∷ 0 ∷ []) ∷
+    -- 9. C 1, E 0 1: 0 open. Then C 0: 0 dead.
+    at 4 (Close 1 ∷ []) (Step 0 1) (accepted []) (1 ∷ 4 ∷ 0 ∷ []) ∷
+    at 4 (Close 1 ∷ Step 0 1 ∷ []) (Close 0) (accepted (0 ∷ [])) (4 ∷ 4 ∷ 0 ∷ []) ∷
+    -- 10. C 0, E 0 5: refused 5, not 6.
+    at 4 (Close 0 ∷ []) (Step 0 5) (refused 5) (4 ∷ 0 ∷ 0 ∷ []) ∷
+    -- 11. Limit 1: E 0 1, then E 0 1 again: refused 9. T 0 after it is accepted.
+    at 1 (Step 0 1 ∷ []) (Step 0 1) (refused 9) (1 ∷ 1 ∷ 0 ∷ []) ∷
+    at 1 (Step 0 1 ∷ Step 0 1 ∷ []) (Terminal 0) (accepted (0 ∷ [])) (3 ∷ 1 ∷ 0 ∷ []) ∷
+    -- 12. T 0, E 0 1, E 1 2, C 1, C 2, and the same without E 0 1: last news is 1 and 2, dead, in both.
+    at 4 (Terminal 0 ∷ Step 0 1 ∷ Step 1 2 ∷ Close 1 ∷ []) (Close 2) (accepted (1 ∷ 2 ∷ [])) (3 ∷ 4 ∷ 4 ∷ []) ∷
+    at 4 (Terminal 0 ∷ Step 1 2 ∷ Close 1 ∷ []) (Close 2) (accepted (1 ∷ 2 ∷ [])) (3 ∷ 4 ∷ 4 ∷ []) ∷ []

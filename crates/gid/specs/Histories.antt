@@ -1,0 +1,44 @@
+-- Histories: the updates that were accepted, and which of them are legal. Document 000, section 2.1, calls a legal history a valid GID.
+-- Assumes nothing.
+use mathlib.Core.Path.{_≡_}
+use mathlib.Core.List.{List, [], _∷_, _++_, List·Memᴰ}
+use Prim.Native.Nat.{ℕ}
+use Rattle.gid.specs.declared.Update.{Update}
+use Rattle.gid.specs.declared.Update.the-variants.{Step, Terminal, Close}
+use Rattle.gid.specs.Updates.{source, Mentions}
+
+-- A history is the list of its updates, the newest first: `x ∷ h` is the history h followed by the update x.
+abbrev pub History : Type 0
+History = List Update
+
+-- The history of updates that are listed in the order of their arrival.
+abbrev pub following : History → List Update → History
+following h [] = h
+following h (x ∷ xs) = following (x ∷ h) xs
+
+-- The update x is one of the history's.
+abbrev pub Has : History → Update → Type 0
+Has h x = List·Memᴰ x h
+
+-- The history has a step from u to v.
+abbrev pub IsStep : History → ℕ → ℕ → Type 0
+IsStep h u v = Has h (Step u v)
+
+abbrev pub IsTerminal : History → ℕ → Type 0
+IsTerminal h s = Has h (Terminal s)
+
+abbrev pub IsClosed : History → ℕ → Type 0
+IsClosed h s = Has h (Close s)
+
+-- "A state is named when an accepted update mentions it."
+abbrev pub IsNamed : History → ℕ → Type 0
+IsNamed h s = (x : Update) × Has h x × Mentions x s
+
+-- "A history is legal if no step leaves, and no terminal mark or close is put on, a state already closed."
+abbrev pub Legal : History → Type 0
+Legal [] = Unit {0}
+Legal (x ∷ h) = Legal h × (IsClosed h (source x) → ⊥)
+
+-- g continues h: document 000's extension, of which h is a prefix.
+abbrev pub Continues : History → History → Type 0
+Continues h g = (k : History) × (g ≡ k ++ h)

@@ -1,0 +1,62 @@
+-- The numbers 1 to 9: which updates are refused. Document 01, "Numbers by who causes them": "Tests run in rising order and the first that applies is given."
+-- Assumes nothing.
+use mathlib.Core.Bool.{Bool, true, false, not, cond, _||_}
+use mathlib.Core.List.{List, [], _∷_, _++_}
+use mathlib.Core.Option.{Option, some, none}
+use Prim.Native.Nat.{ℕ, zero, suc}
+use lib.Dec.{leb, ltb, eqb}
+use Rattle.gid.specs.declared.Update.{Update}
+use Rattle.gid.specs.declared.Update.the-variants.{Step, Terminal, Close}
+
+-- "There are n states, numbered 0 to n−1, with n from 1 to 2,048. The step limit is from 1 to 8,192."
+abbrev pub maxStates : ℕ
+maxStates = 2048
+
+abbrev pub maxSteps : ℕ
+maxSteps = 8192
+
+-- What a refusal turns on: the state value (n, the step limit, the number of steps), whether every table that the call is lent is long enough, and which states are marked closed and have the status dead.
+pub record Given : Type 0 where
+  pub n : ℕ
+  pub limit : ℕ
+  pub steps : ℕ
+  pub long : Bool
+  pub closed : ℕ → Bool
+  pub dead : ℕ → Bool
+
+-- A test with the number that it gives where it applies.
+pub record Rule : Type 0 where
+  pub applies : Bool
+  pub number : ℕ
+
+-- The number of the first test that applies, if one does.
+abbrev pub first : List Rule → Option ℕ
+first [] = none
+first (r ∷ l) = cond (r .applies) (some (r .number)) (first l)
+
+-- "Caused by the bench that lends"
+abbrev pub lent : Given → List Rule
+lent g =
+    record { applies = eqb (g .n) 0 || ltb maxStates (g .n); number = 1 } ∷
+    record { applies = eqb (g .limit) 0 || ltb maxSteps (g .limit); number = 2 } ∷
+    record { applies = not (g .long); number = 3 } ∷
+    record { applies = ltb (g .limit) (g .steps); number = 4 } ∷ []
+
+-- "Caused by the explorer that sends"
+abbrev pub sent : Given → Update → List Rule
+sent g (Step u v) =
+    record { applies = leb (g .n) u || leb (g .n) v; number = 5 } ∷
+    record { applies = g .closed u; number = 6 } ∷
+    record { applies = g .dead u; number = 8 } ∷
+    record { applies = eqb (g .steps) (g .limit); number = 9 } ∷ []
+sent g (Terminal u) =
+    record { applies = leb (g .n) u; number = 5 } ∷
+    record { applies = g .closed u; number = 6 } ∷
+    record { applies = g .dead u; number = 8 } ∷ []
+sent g (Close u) =
+    record { applies = leb (g .n) u; number = 5 } ∷
+    record { applies = g .closed u; number = 7 } ∷ []
+
+-- The number with which an update is refused, or none: it is accepted.
+unfoldable pub refusal : Given → Update → Option ℕ
+refusal g x = first (lent g ++ sent g x)

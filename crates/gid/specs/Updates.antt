@@ -1,0 +1,31 @@
+-- Updates: what the explorer sends. Document 01, "The record": "`E 3 4` a step, `T 3 -` a terminal mark, `C 3 -` a close".
+-- Assumes nothing.
+use mathlib.Core.Path.{_≡_}
+use mathlib.Core.Logic.{_⊎_}
+use mathlib.Core.Option.{Option, some, none}
+use Prim.Native.Nat.{ℕ}
+use Rattle.gid.specs.declared.Update.{Update}
+use Rattle.gid.specs.declared.Update.the-variants.{Step, Terminal, Close}
+
+-- "An update is sent from its first state."
+abbrev pub source : Update → ℕ
+source (Step u v) = u
+source (Terminal u) = u
+source (Close u) = u
+
+-- "A state is named when an accepted update mentions it."
+abbrev pub Mentions : Update → ℕ → Type 0
+Mentions (Step u v) s = (u ≡ s) ⊎ (v ≡ s)
+Mentions (Terminal u) s = u ≡ s
+Mentions (Close u) s = u ≡ s
+
+-- The values of a record's line: the byte of its kind (E, T or C), from, and to, which is absent, written `-`, "exactly for T and C".
+pub record Values : Type 0 where
+  pub kind : ℕ
+  pub from : ℕ
+  pub to : Option ℕ
+
+abbrev pub values : Update → Values
+values (Step u v) = record { kind = 69; from = u; to = some v }
+values (Terminal u) = record { kind = 84; from = u; to = none }
+values (Close u) = record { kind = 67; from = u; to = none }
