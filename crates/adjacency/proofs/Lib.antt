@@ -1,0 +1,2 @@
+-- The laws of walks.
+pub mod Walks

@@ -1,0 +1,2 @@
+-- Walks over the steps at a state.
+pub mod Walks

@@ -1,0 +1,6 @@
+-- The laws of the tables and of the refusals.
+pub mod Refusing
+pub mod Sizes
+pub mod Bits
+pub mod Listed
+pub mod Starting

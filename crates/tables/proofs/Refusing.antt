@@ -1,0 +1,162 @@
+-- The laws of the refusals: rules in a row, and the number 0 for none.
+-- Assumes nothing.
+use mathlib.Core.Path.{_≡_, refl, sym, _∙_, ap}
+use mathlib.Core.Bool.{Bool, true, false, cond, _||_, true≢false}
+use mathlib.Core.List.{List, [], _∷_, _++_}
+use mathlib.Core.Option.{Option, some, none}
+use Prim.Native.Nat.{ℕ, _<_, _≤_}
+use native.Mathlib.Omega.{arith}
+use lib.Dec.{leb, ltb, eqb}
+use borrow.Author.Tests.{eqb-false, ltb-false, leb-true, not-false}
+use lib.ListN.{length, getD}
+use Rattle.gid.specs.declared.Update.{Update}
+use Rattle.gid.specs.declared.Update.the-variants.{Step, Terminal, Close}
+use Rattle.gid.specs.Refusals.{Given, Rule, first, lent, sent, refusal, maxStates, maxSteps}
+use Rattle.tables.specs.declared.Graph.{Graph}
+use Rattle.tables.specs.declared.Status.the-variants.{Byte, Refused}
+use Rattle.tables.specs.Tables.{Tables, enough, needs, lengths}
+use Rattle.tables.specs.Refused.{given, refusalOn, number, lentNumber, sentNumber, statusRules, orByte, statusAnswer}
+
+-- No rule of the list has the number 0.
+abbrev pub Numbered : List Rule → Type 0
+Numbered [] = Unit {0}
+Numbered (r ∷ l) = (0 < r .number) × Numbered l
+
+-- The number 0 is given for none alone.
+pub number-none : (l : List Rule) → Numbered l → number (first l) ≡ 0 → first l ≡ none
+number-none [] p e = refl
+number-none (r ∷ l) p e = at (r .applies) (number-none l (p .1)) e
+  where
+    at : (b : Bool) → (number (first l) ≡ 0 → first l ≡ none) → number (cond b (some (r .number)) (first l)) ≡ 0 → cond b (some (r .number)) (first l) ≡ none
+    at true i q = absurd (omega (arith, p .0))
+    at false i q = i q
+
+pub number-some : (o : Option ℕ) (k : ℕ) → number o ≡ k → (k ≡ 0 → ⊥) → o ≡ some k
+number-some none k e n = absurd (n (sym e))
+number-some (some j) k e n = ap some e
+
+-- The first of two lists of rules.
+pub first-some : (l m : List Rule) (k : ℕ) → first l ≡ some k → first (l ++ m) ≡ some k
+first-some [] m k e = absurd (let z : _≡_ {A = ℕ} 0 1 = cc in omega arith)
+first-some (r ∷ l) m k e = at (r .applies) (first-some l m k) e
+  where
+    at : (b : Bool) → (first l ≡ some k → first (l ++ m) ≡ some k) → cond b (some (r .number)) (first l) ≡ some k → cond b (some (r .number)) (first (l ++ m)) ≡ some k
+    at true i q = q
+    at false i q = i q
+
+pub first-none : (l m : List Rule) → first l ≡ none → first (l ++ m) ≡ first m
+first-none [] m e = refl
+first-none (r ∷ l) m e = at (r .applies) (first-none l m) e
+  where
+    at : (b : Bool) → (first l ≡ none → first (l ++ m) ≡ first m) → cond b (some (r .number)) (first l) ≡ none → cond b (some (r .number)) (first (l ++ m)) ≡ first m
+    at true i q = absurd (let z : _≡_ {A = ℕ} 0 1 = cc in omega arith)
+    at false i q = i q
+
+lent-numbered : (g : Given) → Numbered (lent g)
+lent-numbered g = (omega arith, (omega arith, (omega arith, (omega arith, tt))))
+
+sent-numbered : (g : Given) (x : Update) → Numbered (sent g x)
+sent-numbered g (Step u v) = (omega arith, (omega arith, (omega arith, (omega arith, tt))))
+sent-numbered g (Terminal u) = (omega arith, (omega arith, (omega arith, tt)))
+sent-numbered g (Close u) = (omega arith, (omega arith, tt))
+
+-- The tests 5 to 9 do not turn on the tables' lengths.
+sent-any : (g : Graph) (long : Bool) (marks status : List ℕ) (x : Update) → first (sent (given g long marks status) x) ≡ first (sent (given g true marks status) x)
+sent-any g long marks status (Step u v) = refl
+sent-any g long marks status (Terminal u) = refl
+sent-any g long marks status (Close u) = refl
+
+-- The tests 1 to 4 pass where the code's number is 0, and else give it.
+pub lent-passes : (g : Graph) (long : Bool) (marks status : List ℕ) → lentNumber g long ≡ 0 → first (lent (given g long marks status)) ≡ none
+unfolding lentNumber
+lent-passes g long marks status e = number-none (lent (given g long marks status)) (lent-numbered (given g long marks status)) e
+
+pub lent-refuses : (g : Graph) (long : Bool) (marks status : List ℕ) (k : ℕ) → lentNumber g long ≡ k → (k ≡ 0 → ⊥) → first (lent (given g long marks status)) ≡ some k
+unfolding lentNumber
+lent-refuses g long marks status k e n = number-some (first (lent (given g long marks status))) k e n
+
+-- Where there is no number, no rule applies.
+abbrev pub Passed : List Rule → Type 0
+Passed [] = Unit {0}
+Passed (r ∷ l) = (r .applies ≡ false) × Passed l
+
+pub passed : (l : List Rule) → first l ≡ none → Passed l
+passed [] e = tt
+passed (r ∷ l) e = at (r .applies) refl (passed l) e
+  where
+    at : (b : Bool) → r .applies ≡ b → (first l ≡ none → Passed l) → cond b (some (r .number)) (first l) ≡ none → (r .applies ≡ false) × Passed l
+    at true q i z = absurd (let y : _≡_ {A = ℕ} 0 1 = cc in omega arith)
+    at false q i z = (q, i z)
+
+pub neither : (a b : Bool) → a || b ≡ false → (a ≡ false) × (b ≡ false)
+neither true b e = absurd (true≢false e)
+neither false b e = (refl, e)
+
+-- What the tests 1 to 4 leave.
+pub record Lent (g : Graph) (long : Bool) : Type 0 where
+  pub some-states : 0 < g .n
+  pub few-states : g .n ≤ 2048
+  pub some-limit : 0 < g .limit
+  pub low-limit : g .limit ≤ 8192
+  pub longs : long ≡ true
+  pub room : g .steps ≤ g .limit
+
+pub lent-leaves : (g : Graph) (long : Bool) → lentNumber g long ≡ 0 → Lent g long
+lent-leaves g long e =
+    let p = passed (lent (given g long [] [])) (lent-passes g long [] [] e) in
+    let n = neither (eqb (g .n) 0) (ltb maxStates (g .n)) (p .0) in
+    let l = neither (eqb (g .limit) 0) (ltb maxSteps (g .limit)) (p .1 .0) in
+    let nz = eqb-false (g .n) 0 (n .0) in
+    let lz = eqb-false (g .limit) 0 (l .0) in
+    record {
+      some-states = omega arith;
+      few-states = ltb-false maxStates (g .n) (n .1);
+      some-limit = omega arith;
+      low-limit = ltb-false maxSteps (g .limit) (l .1);
+      longs = not-false long (p .1 .1 .0);
+      room = ltb-false (g .limit) (g .steps) (p .1 .1 .1 .0);
+    }
+
+module _ (g : Graph) (status : List ℕ) (s : ℕ) where
+  pub status-refused : (k : ℕ) → lentNumber g (leb (g .n) (length status)) ≡ k → (k ≡ 0 → ⊥) → Refused k ≡ statusAnswer g status s
+  unfolding statusAnswer
+  status-refused k e n =
+      rw (first-some (lent (given g (leb (g .n) (length status)) [] status)) (record { applies = leb (g .n) s; number = 5 } ∷ []) k (lent-refuses g (leb (g .n) (length status)) [] status k e n))
+
+  module _ (e : lentNumber g (leb (g .n) (length status)) ≡ 0) where
+    passes : first (statusRules g status s) ≡ first (record { applies = leb (g .n) s; number = 5 } ∷ [])
+    passes = first-none (lent (given g (leb (g .n) (length status)) [] status)) (record { applies = leb (g .n) s; number = 5 } ∷ []) (lent-passes g (leb (g .n) (length status)) [] status e)
+
+    pub status-range : leb (g .n) s ≡ true → Refused 5 ≡ statusAnswer g status s
+    unfolding statusAnswer
+    status-range t = rw (passes, t)
+
+    pub status-byte : leb (g .n) s ≡ false → Byte (getD status s 0) ≡ statusAnswer g status s
+    unfolding statusAnswer
+    status-byte t = rw (passes, t)
+
+-- An update's number on the tables, from the two halves.
+module _ (g : Graph) (t : Tables) (x : Update) where
+  pub refused-lent : (k : ℕ) → lentNumber g (enough (needs (g .n) (g .limit) (lengths t))) ≡ k → (k ≡ 0 → ⊥) → refusalOn g t x ≡ some k
+  unfolding refusal
+  refused-lent k e n =
+      first-some (lent (given g (enough (needs (g .n) (g .limit) (lengths t))) (t .marks) (t .status)))
+      (sent (given g (enough (needs (g .n) (g .limit) (lengths t))) (t .marks) (t .status)) x) k
+      (lent-refuses g (enough (needs (g .n) (g .limit) (lengths t))) (t .marks) (t .status) k e n)
+
+  module _ (e : lentNumber g (enough (needs (g .n) (g .limit) (lengths t))) ≡ 0) where
+    sent-half : refusalOn g t x ≡ first (sent (given g true (t .marks) (t .status)) x)
+    unfolding refusal
+    sent-half =
+        first-none (lent (given g (enough (needs (g .n) (g .limit) (lengths t))) (t .marks) (t .status)))
+        (sent (given g (enough (needs (g .n) (g .limit) (lengths t))) (t .marks) (t .status)) x)
+        (lent-passes g (enough (needs (g .n) (g .limit) (lengths t))) (t .marks) (t .status) e) ∙
+        sent-any g (enough (needs (g .n) (g .limit) (lengths t))) (t .marks) (t .status) x
+
+    pub refused-sent : (k : ℕ) → sentNumber g (t .marks) (t .status) x ≡ k → (k ≡ 0 → ⊥) → refusalOn g t x ≡ some k
+    unfolding sentNumber
+    refused-sent k q n = sent-half ∙ number-some (first (sent (given g true (t .marks) (t .status)) x)) k q n
+
+    pub accepted : sentNumber g (t .marks) (t .status) x ≡ 0 → refusalOn g t x ≡ none
+    unfolding sentNumber
+    accepted q = sent-half ∙ number-none (sent (given g true (t .marks) (t .status)) x) (sent-numbered (given g true (t .marks) (t .status)) x) q

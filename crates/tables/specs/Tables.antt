@@ -1,0 +1,80 @@
+-- The tables that the caller lends, at one moment, as lists. Document 01, "The tables the bench lends".
+-- Assumes nothing.
+use mathlib.Core.Bool.{Bool, true, _&&_}
+use mathlib.Core.List.{List, [], _∷_}
+use Prim.Native.Nat.{ℕ, _+_, _*_, _≤_}
+use lib.Dec.{leb}
+use lib.ListN.{length, replicate}
+use Rattle.tables.specs.declared.lengths.Lengths.{Lengths}
+
+pub record Tables : Type 0 where
+  -- "Status table, a byte for each state: 0 unseen, 1 open, 2 unknown, 3 live, 4 dead."
+  pub status : List ℕ
+  -- "Marks, a byte for each state, the sum of 1 (named), 2 (terminal), 4 (closed)."
+  pub marks : List ℕ
+  -- "Step list: two tables of 16-bit numbers, from and to, each as long as the step limit, in order of acceptance."
+  pub from : List ℕ
+  pub to : List ℕ
+  -- "Successors, a 16-bit number for each state."
+  pub successor : List ℕ
+  -- "News list, a 16-bit number for each state."
+  pub news : List ℕ
+  -- "Work tables of 16-bit numbers": the heads of the lists of steps into and out of each state,
+  pub inHead : List ℕ
+  pub outHead : List ℕ
+  -- the queue of a search and the mark of the states that it has visited,
+  pub queue : List ℕ
+  pub visited : List ℕ
+  -- and for each listed step the next one with the same end.
+  pub inNext : List ℕ
+  pub outNext : List ℕ
+
+-- A table's length, and how many of its entries are needed.
+pub record Needed : Type 0 where
+  pub have : ℕ
+  pub need : ℕ
+
+abbrev pub enough : List Needed → Bool
+enough [] = true
+enough (x ∷ l) = leb (x .need) (x .have) && enough l
+
+abbrev pub lengths : Tables → Lengths
+lengths t =
+    record {
+      status = length (t .status);
+      marks = length (t .marks);
+      successor = length (t .successor);
+      news = length (t .news);
+      «in_head» = length (t .inHead);
+      «out_head» = length (t .outHead);
+      queue = length (t .queue);
+      visited = length (t .visited);
+      from = length (t .from);
+      to = length (t .to);
+      «in_next» = length (t .inNext);
+      «out_next» = length (t .outNext);
+    }
+
+-- The work tables, for n states and a step limit: "together at most 4n + 4 × limit entries" (proofs/Sizes.antt).
+abbrev pub workNeeds : ℕ → ℕ → Lengths → List Needed
+workNeeds n limit l =
+    record { have = l .«in_head»; need = n } ∷
+    record { have = l .«out_head»; need = n } ∷
+    record { have = l .queue; need = n } ∷
+    record { have = l .visited; need = n } ∷
+    record { have = l .«in_next»; need = limit } ∷
+    record { have = l .«out_next»; need = limit } ∷ []
+
+-- All the tables that an update is lent.
+abbrev pub needs : ℕ → ℕ → Lengths → List Needed
+needs n limit l =
+    record { have = l .status; need = n } ∷
+    record { have = l .marks; need = n } ∷
+    record { have = l .from; need = limit } ∷
+    record { have = l .to; need = limit } ∷
+    record { have = l .successor; need = n } ∷
+    record { have = l .news; need = n } ∷ workNeeds n limit l
+
+abbrev pub total : List Needed → ℕ
+total [] = 0
+total (x ∷ l) = x .need + total l

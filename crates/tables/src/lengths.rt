@@ -1,0 +1,47 @@
+// The lengths of the tables that an update is lent, and whether they are enough.
+ghost use mathlib.Core.Path.{_≡_};
+ghost use mathlib.Core.Bool.{_&&_};
+ghost use Rattle.tables.specs.Tables.{enough, needs};
+
+pub struct Lengths {
+    // An entry for each state.
+    pub status: usize,
+    pub marks: usize,
+    pub successor: usize,
+    pub news: usize,
+    pub in_head: usize,
+    pub out_head: usize,
+    pub queue: usize,
+    pub visited: usize,
+    // An entry for each step of the limit.
+    pub from: usize,
+    pub to: usize,
+    pub in_next: usize,
+    pub out_next: usize,
+}
+
+impl Lengths {
+    // Whether each table is long enough for n states and this step limit.
+    pub fn enough(self, n: usize, limit: usize) -> bool
+        ensures { λ r. ⌜ r ≡ enough (needs n limit self) ⌝ }
+    {
+        let rest = both(limit <= self.out_next, true);
+        let rest = both(limit <= self.in_next, rest);
+        let rest = both(n <= self.visited, rest);
+        let rest = both(n <= self.queue, rest);
+        let rest = both(n <= self.out_head, rest);
+        let rest = both(n <= self.in_head, rest);
+        let rest = both(n <= self.news, rest);
+        let rest = both(n <= self.successor, rest);
+        let rest = both(limit <= self.to, rest);
+        let rest = both(limit <= self.from, rest);
+        let rest = both(n <= self.marks, rest);
+        both(n <= self.status, rest)
+    }
+}
+
+fn both(a: bool, b: bool) -> bool
+    ensures { λ r. ⌜ r ≡ (a && b) ⌝ }
+{
+    if a { b } else { false }
+}

@@ -1,0 +1,180 @@
+// What the engine is handed, and what it refuses: the state value, the caller's tables, the numbers 1 to 9, the mark bits, and the status question.
+ghost use mathlib.Core.Path.{_≡_};
+ghost use mathlib.Core.Bool.{Bool, true, false};
+ghost use Prim.Native.Nat.{ℕ, _+_, _*_, _-_, _≤_, _<_};
+ghost use lib.ListN.{length, getD, set};
+ghost use Rattle.tables.specs.Refused.{lentNumber, sentNumber, statusAnswer};
+
+mod lengths;
+mod marks;
+
+use gid::Update;
+pub use lengths::Lengths;
+pub use marks::has_closed;
+pub use marks::with_closed;
+pub use marks::with_named;
+pub use marks::with_terminal;
+
+// "There are n states, numbered 0 to n−1, with n from 1 to 2,048."
+pub const MAX_STATES: usize = 2048;
+// "The step limit is from 1 to 8,192."
+pub const MAX_STEPS: usize = 8192;
+// "For every other state the entry is 65,535."
+pub const NO_SUCCESSOR: u16 = 65535;
+
+// "0 unseen, 1 open, 2 unknown, 3 live, 4 dead"
+pub const UNSEEN: u8 = 0;
+
+pub const OPEN: u8 = 1;
+
+pub const UNKNOWN: u8 = 2;
+
+pub const LIVE: u8 = 3;
+
+pub const DEAD: u8 = 4;
+
+// "Numbers by who causes them": the refusals of the caller that lends,
+pub const BAD_STATES: u8 = 1;
+
+pub const BAD_LIMIT: u8 = 2;
+
+pub const SHORT_TABLE: u8 = 3;
+
+pub const EXCESS_STEPS: u8 = 4;
+// and of the explorer that sends.
+pub const OUT_OF_RANGE: u8 = 5;
+
+pub const CLOSED_SOURCE: u8 = 6;
+
+pub const CLOSED_AGAIN: u8 = 7;
+
+pub const DEAD_SOURCE: u8 = 8;
+
+pub const LIST_FULL: u8 = 9;
+
+// The small state value of document 01: it goes into each update and comes back.
+pub struct Graph {
+    // The number of states.
+    pub n: usize,
+    // The step limit.
+    pub limit: usize,
+    // The number of steps that are listed.
+    pub steps: usize,
+}
+
+// What the status question answers: the state's byte, or the number of a refusal.
+pub enum Status {
+    Byte(u8),
+    Refused(u8),
+}
+
+impl Graph {
+    // The number of the first of the tests 1 to 4 that applies, or 0. `long`: each table that the call is lent is long enough.
+    pub fn lent(self, long: bool) -> u8
+        ensures { λ r. ⌜ r ≡ lentNumber self long ⌝ }
+    {
+        if self.n == 0 {
+            return BAD_STATES;
+        }
+        if MAX_STATES < self.n {
+            return BAD_STATES;
+        }
+        if self.limit == 0 {
+            return BAD_LIMIT;
+        }
+        if MAX_STEPS < self.limit {
+            return BAD_LIMIT;
+        }
+        if long {
+            if self.limit < self.steps {
+                return EXCESS_STEPS;
+            }
+            return 0;
+        }
+        SHORT_TABLE
+    }
+
+    // The number of the first of the tests 5 to 9 that applies to an update, or 0.
+    pub fn sent(self, update: Update, marks: &[u8], status: &[u8]) -> u8
+        requires { ⌜ (self .n ≤ length (now marks)) × (self .n ≤ length (now status)) ⌝ }
+        ensures { λ r. ⌜ r ≡ sentNumber self (now (marks .entry)) (now (status .entry)) update ⌝ }
+    {
+        match update {
+            Update::Step { from, to } => self.sent_step(from, to, marks, status),
+            Update::Terminal { state } => self.sent_terminal(state, marks, status),
+            Update::Close { state } => self.sent_close(state, marks, status),
+        }
+    }
+
+    fn sent_step(self, from: usize, to: usize, marks: &[u8], status: &[u8]) -> u8
+        requires { ⌜ (self .n ≤ length (now marks)) × (self .n ≤ length (now status)) ⌝ }
+        ensures { λ r. ⌜ r ≡ sentNumber self (now (marks .entry)) (now (status .entry)) (Update.Step from to) ⌝ }
+    {
+        if self.n <= from {
+            return OUT_OF_RANGE;
+        }
+        if self.n <= to {
+            return OUT_OF_RANGE;
+        }
+        if has_closed(marks[from]) {
+            return CLOSED_SOURCE;
+        }
+        if status[from] == DEAD {
+            return DEAD_SOURCE;
+        }
+        if self.steps == self.limit {
+            return LIST_FULL;
+        }
+        0
+    }
+
+    fn sent_terminal(self, state: usize, marks: &[u8], status: &[u8]) -> u8
+        requires { ⌜ (self .n ≤ length (now marks)) × (self .n ≤ length (now status)) ⌝ }
+        ensures { λ r. ⌜ r ≡ sentNumber self (now (marks .entry)) (now (status .entry)) (Update.Terminal state) ⌝ }
+    {
+        if self.n <= state {
+            return OUT_OF_RANGE;
+        }
+        if has_closed(marks[state]) {
+            return CLOSED_SOURCE;
+        }
+        if status[state] == DEAD {
+            return DEAD_SOURCE;
+        }
+        0
+    }
+
+    fn sent_close(self, state: usize, marks: &[u8], status: &[u8]) -> u8
+        requires { ⌜ (self .n ≤ length (now marks)) × (self .n ≤ length (now status)) ⌝ }
+        ensures { λ r. ⌜ r ≡ sentNumber self (now (marks .entry)) (now (status .entry)) (Update.Close state) ⌝ }
+    {
+        if self.n <= state {
+            return OUT_OF_RANGE;
+        }
+        if has_closed(marks[state]) {
+            return CLOSED_AGAIN;
+        }
+        0
+    }
+
+    // The status question: the tests 1 to 5, then the state's byte.
+    pub fn status(self, status: &[u8], state: usize) -> Status
+        ensures { λ r. ⌜ r ≡ statusAnswer self (now (status .entry)) state ⌝ }
+    {
+        let refused = self.lent(self.n <= status.len());
+        if refused != 0 {
+            return Status::Refused(refused);
+        }
+        if self.n <= state {
+            return Status::Refused(OUT_OF_RANGE);
+        }
+        Status::Byte(status[state])
+    }
+}
+
+// An entry of a table as an index.
+pub fn wide(x: u16) -> usize
+    ensures { λ r. ⌜ r ≡ x ⌝ }
+{
+    x as usize
+}
