@@ -3,6 +3,7 @@ pub mod Decide
 pub mod Paths
 pub mod Tests
 pub mod Deadness
+pub mod After
 pub mod Statuses
 pub mod News
 pub mod Chains

@@ -37,6 +37,16 @@ unfolding below
 below-none zero f e = refl
 below-none (suc n) f e = rw (below-none n f (λ s h. e s (omega arith)), e n (omega arith))
 
+-- where none is picked from m on, the rest adds nothing
+pub below-more : (m n : ℕ) (f : ℕ → Bool) → m ≤ n → ((s : ℕ) → m ≤ s → s < n → f s ≡ false) → below n f ≡ below m f
+unfolding below
+below-more m zero f l e = let z : m ≡ 0 = omega arith in rw z
+below-more m (suc n) f l e = at (ℕ-discrete m (suc n)) (λ q. below-more m n f q (λ s a b. e s a (omega arith)))
+  where
+    at : Dec (m ≡ suc n) → (m ≤ n → below n f ≡ below m f) → below n f ++ cond (f n) (n ∷ []) [] ≡ below m f
+    at (yes q) i = rw q
+    at (no d) i = rw (e n (omega arith) (omega arith), append-nil (below n f)) (i (omega arith))
+
 pub below-mem : (n : ℕ) (f : ℕ → Bool) (s : ℕ) → List·Memᴰ s (below n f) ↔ ((s < n) × (f s ≡ true))
 unfolding below
 below-mem zero f s = (λ m. absurd (List·Memᴰ·not-nil m), λ p. absurd (omega arith))

@@ -29,7 +29,7 @@ keeps-start : Keeps [] []
 keeps-start = record { part = λ x m. m; kept = λ x m n. m; live = λ s l. l }
 
 -- an update sent from a live state makes no state live
-live-before : {f : History} {x : Update} → Live f (source x) → {s : ℕ} → Live (x ∷ f) s → Live f s
+pub live-before : {f : History} {x : Update} → Live f (source x) → {s : ℕ} → Live (x ∷ f) s → Live f s
 live-before {f} {x} l (v, p, t) = back p (⊎-elim (λ e. subst (λ (y : Update). Live f (source y)) (sym e) l) live-terminal (List·Memᴰ·cases-cons t))
   where
     back : {u w : ℕ} → Reaches (x ∷ f) u w → Live f w → Live f u

@@ -1,0 +1,9 @@
+-- How verdicts spread, on tables with any contents.
+pub mod Counting
+pub mod Marking
+pub mod Spreading
+pub mod Releasing
+pub mod Offering
+pub mod Escaping
+pub mod Rescuing
+pub mod Settling

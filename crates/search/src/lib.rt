@@ -1,0 +1,6 @@
+// How verdicts spread along the steps.
+pub mod near;
+pub mod rescue;
+pub mod settle;
+pub mod spread;
+pub mod visits;
