@@ -110,24 +110,41 @@ at-step (Step u v ∷ h) p = ⊎-elim (λ e. List·Memᴰ·head (rw (e .0, e .1)
 at-step (Terminal u ∷ h) p = List·Memᴰ·tail (at-step h (before-terminal p))
 at-step (Close u ∷ h) p = List·Memᴰ·tail (at-step h (before-close p))
 
-module _ {h : History} {g : Graph} {t : Tables} (c : Consistent h g t) where
+-- The first m entries of two lists are the ends of the history's steps.
+pub record Lists (h : History) (m : ℕ) (from to : List ℕ) : Type 0 where
+  pub count : m ≡ length (sources h)
+  pub froms : take m from ≡ sources h
+  pub tos : take m to ≡ targets h
+
+module _ {h : History} {m : ℕ} {from to : List ℕ} (l : Lists h m from to) where
   -- A step of the history is listed.
-  pub step-listed : (a b : ℕ) → IsStep h a b → (p : ℕ) × (p < g .steps) × (getD (t .from) p 0 ≡ a) × (getD (t .to) p 0 ≡ b)
-  step-listed a b m =
-      let r = step-at h a b m in
-      let k : r .0 < g .steps = rw (c .steps) (r .1 .inside) in (
+  pub step-in-list : (a b : ℕ) → IsStep h a b → (p : ℕ) × (p < m) × (getD from p 0 ≡ a) × (getD to p 0 ≡ b)
+  step-in-list a b s =
+      let r = step-at h a b s in
+      let k : r .0 < m = rw (l .count) (r .1 .inside) in (
         r .0,
         k,
-        sym (getD-take (g .steps) (t .from) (r .0) 0 k) ∙ ap (λ (l : List ℕ). getD l (r .0) 0) (c .from) ∙ r .1 .from,
-        sym (getD-take (g .steps) (t .to) (r .0) 0 k) ∙ ap (λ (l : List ℕ). getD l (r .0) 0) (c .to) ∙ r .1 .to,
+        sym (getD-take m from (r .0) 0 k) ∙ ap (λ (z : List ℕ). getD z (r .0) 0) (l .froms) ∙ r .1 .from,
+        sym (getD-take m to (r .0) 0 k) ∙ ap (λ (z : List ℕ). getD z (r .0) 0) (l .tos) ∙ r .1 .to,
       )
 
   -- A listed step is the history's.
-  pub listed-step : (p : ℕ) → p < g .steps → IsStep h (getD (t .from) p 0) (getD (t .to) p 0)
-  listed-step p k =
+  pub list-has-step : (p : ℕ) → p < m → IsStep h (getD from p 0) (getD to p 0)
+  list-has-step p k =
       at-step h
       (record {
-        inside = rw (c .steps) at k;
-        from = sym (ap (λ (l : List ℕ). getD l p 0) (c .from)) ∙ getD-take (g .steps) (t .from) p 0 k;
-        to = sym (ap (λ (l : List ℕ). getD l p 0) (c .to)) ∙ getD-take (g .steps) (t .to) p 0 k;
+        inside = rw (l .count) at k;
+        from = sym (ap (λ (z : List ℕ). getD z p 0) (l .froms)) ∙ getD-take m from p 0 k;
+        to = sym (ap (λ (z : List ℕ). getD z p 0) (l .tos)) ∙ getD-take m to p 0 k;
       })
+
+-- The lists of tables that fit.
+module _ {h : History} {g : Graph} {t : Tables} (c : Consistent h g t) where
+  pub lists-of : Lists h (g .steps) (t .from) (t .to)
+  lists-of = record { count = c .steps; froms = c .from; tos = c .to }
+
+  pub step-listed : (a b : ℕ) → IsStep h a b → (p : ℕ) × (p < g .steps) × (getD (t .from) p 0 ≡ a) × (getD (t .to) p 0 ≡ b)
+  step-listed = step-in-list lists-of
+
+  pub listed-step : (p : ℕ) → p < g .steps → IsStep h (getD (t .from) p 0) (getD (t .to) p 0)
+  listed-step = list-has-step lists-of

@@ -75,6 +75,11 @@ pub lent-refuses : (g : Graph) (long : Bool) (marks status : List ℕ) (k : ℕ)
 unfolding lentNumber
 lent-refuses g long marks status k e n = number-some (first (lent (given g long marks status))) k e n
 
+-- The tests 5 to 9 pass where the code's number is 0.
+pub sent-passes : (g : Graph) (marks status : List ℕ) (x : Update) → sentNumber g marks status x ≡ 0 → first (sent (given g true marks status) x) ≡ none
+unfolding sentNumber
+sent-passes g marks status x e = number-none (sent (given g true marks status) x) (sent-numbered (given g true marks status) x) e
+
 -- Where there is no number, no rule applies.
 abbrev pub Passed : List Rule → Type 0
 Passed [] = Unit {0}
@@ -87,6 +92,10 @@ passed (r ∷ l) e = at (r .applies) refl (passed l) e
     at : (b : Bool) → r .applies ≡ b → (first l ≡ none → Passed l) → cond b (some (r .number)) (first l) ≡ none → (r .applies ≡ false) × Passed l
     at true q i z = absurd (let y : _≡_ {A = ℕ} 0 1 = cc in omega arith)
     at false q i z = (q, i z)
+
+pub none-applies : (l : List Rule) → Passed l → first l ≡ none
+none-applies [] p = refl
+none-applies (r ∷ l) p = rw (p .0) (none-applies l (p .1))
 
 pub neither : (a b : Bool) → a || b ≡ false → (a ≡ false) × (b ≡ false)
 neither true b e = absurd (true≢false e)
@@ -160,3 +169,18 @@ module _ (g : Graph) (t : Tables) (x : Update) where
     pub accepted : sentNumber g (t .marks) (t .status) x ≡ 0 → refusalOn g t x ≡ none
     unfolding sentNumber
     accepted q = sent-half ∙ number-none (sent (given g true (t .marks) (t .status)) x) (sent-numbered (given g true (t .marks) (t .status)) x) q
+
+split-none : (l m : List Rule) → first (l ++ m) ≡ none → (first l ≡ none) × (first m ≡ none)
+split-none [] m e = (refl, e)
+split-none (r ∷ l) m e = at (r .applies) e (split-none l m)
+  where
+    at : (b : Bool) → cond b (some (r .number)) (first (l ++ m)) ≡ none → (first (l ++ m) ≡ none → (first l ≡ none) × (first m ≡ none)) → (cond b (some (r .number)) (first l) ≡ none) × (first m ≡ none)
+    at true q i = absurd (let z : _≡_ {A = ℕ} 0 1 = cc in omega arith)
+    at false q i = i q
+
+-- An accepted update has passed the tests 1 to 4 and the tests 5 to 9.
+pub accepted-passes : (g : Graph) (t : Tables) (x : Update) → refusalOn g t x ≡ none → (lentNumber g (enough (needs (g .n) (g .limit) (lengths t))) ≡ 0) × (sentNumber g (t .marks) (t .status) x ≡ 0)
+unfolding refusal lentNumber sentNumber
+accepted-passes g t x e =
+    let p = split-none (lent (given g (enough (needs (g .n) (g .limit) (lengths t))) (t .marks) (t .status))) (sent (given g (enough (needs (g .n) (g .limit) (lengths t))) (t .marks) (t .status)) x) e in
+    (ap number (p .0), ap number (sym (sent-any g (enough (needs (g .n) (g .limit) (lengths t))) (t .marks) (t .status) x) ∙ p .1))

@@ -4,3 +4,4 @@ pub mod Marks
 pub mod Work
 pub mod Refused
 pub mod Fitting
+pub mod Listing

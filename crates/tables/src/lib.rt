@@ -4,6 +4,7 @@ ghost use mathlib.Core.Bool.{Bool, true, false};
 ghost use Prim.Native.Nat.{ℕ, _+_, _*_, _-_, _≤_, _<_};
 ghost use lib.ListN.{length, getD, set};
 ghost use Rattle.tables.specs.Refused.{lentNumber, sentNumber, statusAnswer};
+ghost use Rattle.tables.specs.Listing.{graphAfter};
 
 mod lengths;
 mod marks;
@@ -155,6 +156,22 @@ impl Graph {
             return CLOSED_AGAIN;
         }
         0
+    }
+
+    // The state value after an accepted update.
+    pub fn after(self, update: Update) -> Graph
+        requires { ⌜ self .steps < 65536 ⌝ }
+        ensures { λ r. ⌜ r ≡ graphAfter self update ⌝ }
+    {
+        match update {
+            Update::Step { from: _, to: _ } => Graph {
+                n: self.n,
+                limit: self.limit,
+                steps: self.steps + 1,
+            },
+            Update::Terminal { state: _ } => self,
+            Update::Close { state: _ } => self,
+        }
     }
 
     // The status question: the tests 1 to 5, then the state's byte.

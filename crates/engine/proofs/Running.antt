@@ -1,0 +1,182 @@
+-- What holds all along a run from fresh tables.
+-- Assumes nothing.
+use mathlib.Core.Path.{_≡_, refl, sym, _∙_, ap, subst}
+use mathlib.Core.Bool.{Bool, true, false, not, _||_}
+use mathlib.Core.List.{List, [], _∷_, _++_}
+use mathlib.Core.Option.{Option, some, none}
+use Prim.Native.Nat.{ℕ, _+_, _<_, _≤_}
+use native.Mathlib.Omega.{arith}
+use lib.Dec.{leb, ltb, eqb}
+use lib.ListN.{length, getD, set, length-set}
+use borrow.Author.Tests.{lt-leb, le-ltb, ne-eqb}
+use Rattle.gid.specs.declared.Update.{Update}
+use Rattle.gid.specs.declared.Update.the-variants.{Step, Terminal, Close}
+use Rattle.gid.specs.Updates.{source}
+use Rattle.gid.specs.Histories.{History, Legal, IsClosed}
+use Rattle.gid.specs.Statuses.{isClosed, statusDead}
+use Rattle.gid.specs.Refusals.{lent, sent, refusal, first, maxStates, maxSteps}
+use Rattle.gid.proofs.Decide.{refutes, refuted}
+use Rattle.gid.proofs.Tests.{decides-closed}
+use Rattle.gid.proofs.Deadness.{dead-closed}
+use Rattle.gid.proofs.Statuses.{status-dead-by-reach}
+use Rattle.tables.specs.declared.Graph.{Graph}
+use Rattle.tables.specs.declared.lengths.Lengths.{Lengths}
+use Rattle.tables.specs.Tables.{Tables, enough, needs, lengths}
+use Rattle.tables.specs.Marks.{hasClosed}
+use Rattle.tables.specs.Listing.{fromAfter, toAfter, graphAfter}
+use Rattle.tables.specs.Refused.{given, refusalOn, lentNumber, sentNumber}
+use Rattle.tables.specs.Fitting.{Consistent, Fresh}
+use Rattle.tables.proofs.Refusing.{Passed, none-applies, first-none, accepted-passes}
+use Rattle.tables.proofs.Starting.{fresh-consistent}
+use Rattle.engine.specs.declared.Answer.{Answer}
+use Rattle.engine.specs.declared.Answer.the-variants.{Accepted, Refused}
+use Rattle.engine.specs.Effects.{marksAfter}
+use Rattle.engine.specs.Done.{Sendable}
+use Rattle.engine.specs.Promise.{AcceptedUpdate, Promise}
+use Rattle.engine.specs.Runs.{Checked, Run, begun, accepted, refused}
+use Rattle.engine.proofs.Listing.{closed-bit}
+use Rattle.engine.proofs.Promising.{room-of, sendable-of, in-range}
+
+-- What an accepting and a refusing answer tell.
+module _ {g : Graph} {x : Update} {t : Tables} {g′ : Graph} {t′ : Tables} {k : ℕ} where
+  pub was-accepted : Promise g x t g′ (Accepted k) t′ → (refusalOn g t x ≡ none) × AcceptedUpdate g x t g′ t′ k
+  was-accepted p = at (refusalOn g t x) refl
+    where
+      at : (o : Option ℕ) → refusalOn g t x ≡ o → (refusalOn g t x ≡ none) × AcceptedUpdate g x t g′ t′ k
+      at none e =
+          let r = p .accepts e in
+          let z : k ≡ r .0 = let q = r .1 in cc in
+          (e, rw z (r .2))
+      at (some j) e = absurd (let q = p .refuses j e .0 in let z : _≡_ {A = ℕ} 0 1 = cc in omega arith)
+
+  pub was-refused : Promise g x t g′ (Refused k) t′ → (refusalOn g t x ≡ some k) × (g′ ≡ g) × (t′ ≡ t)
+  was-refused p = at (refusalOn g t x) refl
+    where
+      at : (o : Option ℕ) → refusalOn g t x ≡ o → (refusalOn g t x ≡ some k) × (g′ ≡ g) × (t′ ≡ t)
+      at none e = absurd (let q = p .accepts e .1 in let z : _≡_ {A = ℕ} 0 1 = cc in omega arith)
+      at (some j) e =
+          let r = p .refuses j e in
+          let z : j ≡ k = let q = r .0 in cc in
+          (e ∙ ap some z, r .1, r .2)
+
+marks-length : (x : Update) (l : List ℕ) → length (marksAfter x l) ≡ length l
+marks-length (Step u v) l = simp length-set
+marks-length (Terminal u) l = simp length-set
+marks-length (Close u) l = simp length-set
+
+from-length : (m : ℕ) (x : Update) (l : List ℕ) → length (fromAfter m x l) ≡ length l
+from-length m (Step u v) l = simp length-set
+from-length m (Terminal u) l = refl
+from-length m (Close u) l = refl
+
+to-length : (m : ℕ) (x : Update) (l : List ℕ) → length (toAfter m x l) ≡ length l
+to-length m (Step u v) l = simp length-set
+to-length m (Terminal u) l = refl
+to-length m (Close u) l = refl
+
+-- an accepted update keeps every length
+lengths-kept : {g : Graph} {x : Update} {t : Tables} {g′ : Graph} {t′ : Tables} {k : ℕ} → AcceptedUpdate g x t g′ t′ k → lengths t′ ≡ lengths t
+lengths-kept {g} {x} {t} a =
+    let m = ap length (a .marks) ∙ marks-length x (t .marks) in
+    let f = ap length (a .from) ∙ from-length (g .steps) x (t .from) in
+    let o = ap length (a .to) ∙ to-length (g .steps) x (t .to) in
+    rw (
+      a .kept .status .size,
+      m,
+      a .kept .successor .size,
+      a .named .behind .size,
+      a .kept .inHead .size,
+      a .kept .outHead .size,
+      a .kept .queue .size,
+      a .kept .visited .size,
+      f,
+      o,
+      a .kept .inNext .size,
+      a .kept .outNext .size,
+    )
+
+steps-room : (g : Graph) (x : Update) → Sendable (g .n) (g .limit) (g .steps) x → g .steps ≤ g .limit → graphAfter g x .steps ≤ g .limit
+steps-room g (Step u v) s h = omega (arith, s .2)
+steps-room g (Terminal u) s h = h
+steps-room g (Close u) s h = h
+
+pub same-states : (g : Graph) (x : Update) → graphAfter g x .n ≡ g .n
+same-states g (Step u v) = refl
+same-states g (Terminal u) = refl
+same-states g (Close u) = refl
+
+same-limit : (g : Graph) (x : Update) → graphAfter g x .limit ≡ g .limit
+same-limit g (Step u v) = refl
+same-limit g (Terminal u) = refl
+same-limit g (Close u) = refl
+
+-- What holds after each call of a run: the accepted history is legal, the tables fit for it, and sizes are as they were.
+pub record Sound (g₀ : Graph) (t₀ : Tables) (h : History) (g : Graph) (t : Tables) : Type 0 where
+  pub legal : Legal h
+  pub fits : Consistent h g t
+  pub states : g .n ≡ g₀ .n
+  pub limit : g .limit ≡ g₀ .limit
+  pub sizes : lengths t ≡ lengths t₀
+  pub room : g .steps ≤ g .limit
+
+-- an update sent from a state that is not closed meets neither 6, 7 nor 8
+pub unmarked : {h : History} {g : Graph} {t : Tables} → Consistent h g t → (u : ℕ) → u < g .n → (IsClosed h u → ⊥) → hasClosed (getD (t .marks) u 0) ≡ false
+unmarked {h} c u r o = rw (c .marks u r) (closed-bit h u ∙ refutes (isClosed h u) (decides-closed h u) o)
+
+pub undead : {h : History} {g : Graph} {t : Tables} → Consistent h g t → (u : ℕ) → u < g .n → (IsClosed h u → ⊥) → eqb (getD (t .status) u 0) statusDead ≡ false
+undead {h} {t = t} c u r o = ne-eqb (getD (t .status) u 0) statusDead (λ e. o (dead-closed (status-dead-by-reach h u .0 (sym (c .status u r) ∙ e))))
+
+module _ {g₀ : Graph} {t₀ : Tables} where
+  -- a check in between keeps it
+  pub sound-checked : {h : History} {g : Graph} {t t₁ : Tables} → Sound g₀ t₀ h g t → Checked g t t₁ → Sound g₀ t₀ h g t₁
+  sound-checked {h} s c =
+      record { legal = s .legal; fits = c .fits h (s .legal) (s .fits); states = s .states; limit = s .limit; sizes = c .sizes ∙ s .sizes; room = s .room }
+
+  -- what is accepted is not sent from a closed state
+  pub unclosed : {h : History} {g : Graph} {t : Tables} → Sound g₀ t₀ h g t → (x : Update) → refusalOn g t x ≡ none → IsClosed h (source x) → ⊥
+  unclosed {h} {g} {t} s x e =
+      let p = accepted-passes g t x e in
+      let q = sendable-of g (t .marks) (t .status) x (s .room) (p .1) in
+      refuted (decides-closed h (source x)) (sym (closed-bit h (source x)) ∙ ap hasClosed (sym (s .fits .marks (source x) (in-range (g .n) (g .limit) (g .steps) x (q .0)))) ∙ q .1)
+
+  sound-accepted : {h : History} {g g′ : Graph} {t t′ : Tables} {x : Update} {k : ℕ} → Sound g₀ t₀ h g t → Promise g x t g′ (Accepted k) t′ → Sound g₀ t₀ (x ∷ h) g′ t′
+  sound-accepted {h} {g} {g′} {t} {t′} {x} s p =
+      let a = was-accepted p in
+      let q = accepted-passes g t x (a .0) in
+      let d = sendable-of g (t .marks) (t .status) x (s .room) (q .1) in
+      record {
+        legal = (s .legal, unclosed s x (a .0));
+        fits = a .1 .fits h (s .legal) (s .fits) .0;
+        states = ap (λ (e : Graph). e .n) (a .1 .graph) ∙ same-states g x ∙ s .states;
+        limit = ap (λ (e : Graph). e .limit) (a .1 .graph) ∙ same-limit g x ∙ s .limit;
+        sizes = lengths-kept (a .1) ∙ s .sizes;
+        room = rw (a .1 .graph, same-limit g x) (steps-room g x (d .0) (s .room));
+      }
+
+  pub sound : {xs : List Update} {h : History} {g : Graph} {t : Tables} → Fresh g₀ t₀ → Run g₀ t₀ xs h g t → Sound g₀ t₀ h g t
+  sound f begun = record { legal = tt; fits = fresh-consistent g₀ t₀ f; states = refl; limit = refl; sizes = refl; room = omega (arith, f .noSteps) }
+  sound f (accepted r c x k p) = sound-accepted (sound-checked (sound f r) c) p
+  sound f (refused r c x k p) = let q = was-refused p in rw (q .1, q .2) (sound-checked (sound f r) c)
+
+  -- Where the tests 1 to 4 find nothing, an update in range, from a state that is not closed and, for a step, with a free place is accepted.
+  pub not-refused : {h : History} {g : Graph} {t : Tables} → Sound g₀ t₀ h g t → 0 < g .n → g .n ≤ maxStates → 0 < g .limit → g .limit ≤ maxSteps → enough (needs (g .n) (g .limit) (lengths t)) ≡ true → (x : Update) → Sendable (g .n) (g .limit) (g .steps) x → (IsClosed h (source x) → ⊥) → refusalOn g t x ≡ none
+  unfolding refusal
+  not-refused {h} {g} {t} s a b c d e x r o =
+      first-none (lent (given g (enough (needs (g .n) (g .limit) (lengths t))) (t .marks) (t .status)))
+      (sent (given g (enough (needs (g .n) (g .limit) (lengths t))) (t .marks) (t .status)) x)
+      (none-applies (lent (given g (enough (needs (g .n) (g .limit) (lengths t))) (t .marks) (t .status))) (
+        rw (ne-eqb (g .n) 0 (λ z. absurd (omega arith))) (le-ltb maxStates (g .n) b),
+        (
+          rw (ne-eqb (g .limit) 0 (λ z. absurd (omega arith))) (le-ltb maxSteps (g .limit) d),
+          (rw e refl, (le-ltb (g .limit) (g .steps) (s .room), tt)),
+        ),
+      )) ∙
+      none-applies (sent (given g (enough (needs (g .n) (g .limit) (lengths t))) (t .marks) (t .status)) x) (sents x r o)
+    where
+      sents : (y : Update) → Sendable (g .n) (g .limit) (g .steps) y → (IsClosed h (source y) → ⊥) → Passed (sent (given g (enough (needs (g .n) (g .limit) (lengths t))) (t .marks) (t .status)) y)
+      sents (Step u v) q n = (
+        rw (lt-leb (g .n) u (q .0)) (lt-leb (g .n) v (q .1)),
+        (unmarked (s .fits) u (q .0) n, (undead (s .fits) u (q .0) n, (ne-eqb (g .steps) (g .limit) (λ z. absurd (omega (arith, q .2))), tt))),
+      )
+      sents (Terminal u) q n = (lt-leb (g .n) u q, (unmarked (s .fits) u q n, (undead (s .fits) u q n, tt)))
+      sents (Close u) q n = (lt-leb (g .n) u q, (unmarked (s .fits) u q n, tt))

@@ -1,0 +1,122 @@
+-- Two runs of equal size, the one sent what the other accepted less a choice of updates from live states: they agree.
+-- Assumes nothing.
+use mathlib.Core.Path.{_≡_, refl, sym, _∙_, ap, subst}
+use mathlib.Core.Bool.{true}
+use mathlib.Core.List.{List, [], _∷_, _++_}
+use mathlib.Core.Option.{Option, some, none}
+use Prim.Native.Nat.{ℕ, _+_, _<_, _≤_}
+use native.Mathlib.Omega.{arith}
+use lib.ListN.{length, getD, take, length-append}
+use lib.Seq.{length-take-le}
+use Rattle.gid.specs.declared.Update.{Update}
+use Rattle.gid.specs.declared.Update.the-variants.{Step, Terminal, Close}
+use Rattle.gid.specs.Updates.{source}
+use Rattle.gid.specs.Histories.{History, Legal, IsClosed, IsNamed}
+use Rattle.gid.specs.Verdicts.{Live}
+use Rattle.gid.specs.Statuses.{status}
+use Rattle.gid.specs.News.{news}
+use Rattle.gid.specs.Pruning.{Pruned, start, keep, leave, Agrees}
+use Rattle.gid.proofs.Pruning.{keeps, pruning}
+use Rattle.tables.specs.declared.Graph.{Graph}
+use Rattle.tables.specs.declared.lengths.Lengths.{Lengths}
+use Rattle.tables.specs.Tables.{Tables, enough, needs, lengths}
+use Rattle.tables.specs.Refused.{refusalOn}
+use Rattle.tables.specs.Fitting.{sources, Consistent, Fresh}
+use Rattle.tables.proofs.Refusing.{lent-leaves, accepted-passes}
+use Rattle.engine.specs.declared.Answer.the-variants.{Accepted, Refused}
+use Rattle.engine.specs.Done.{Sendable}
+use Rattle.engine.specs.Promise.{Promise}
+use Rattle.engine.specs.Runs.{Checked, Run, begun, accepted, refused, Agree}
+use Rattle.engine.proofs.Promising.{room-of, sendable-of}
+use Rattle.engine.proofs.Running.{was-accepted, was-refused, Sound, sound, sound-checked, unclosed, not-refused, same-states}
+
+both : {o : Option ℕ} {k : ℕ} → o ≡ none → o ≡ some k → ⊥
+both e d = let b : _≡_ {A = ℕ} 0 1 = cc in omega arith
+
+sound-as : {g₀ g : Graph} {t₀ t : Tables} {h f : History} → h ≡ f → Sound g₀ t₀ h g t → Sound g₀ t₀ f g t
+sound-as {g₀} {g} {t₀} {t} e s = subst (λ (h : History). Sound g₀ t₀ h g t) e s
+
+-- a pruned history has no more steps
+fewer : {f p : History} → Pruned f p → length (sources p) ≤ length (sources f)
+unfolding sources
+fewer start = omega arith
+fewer (keep {f = f} {p = p} (Step u v) c) = let i = fewer c in rw (length-append (sources p) (u ∷ []), length-append (sources f) (u ∷ [])) (omega arith)
+fewer (keep (Terminal u) c) = fewer c
+fewer (keep (Close u) c) = fewer c
+fewer (leave {f = f} (Step u v) l c) = let i = fewer c in rw (length-append (sources f) (u ∷ [])) (omega arith)
+fewer (leave (Terminal u) l c) = fewer c
+fewer (leave (Close u) l c) = fewer c
+
+-- an update that is sendable with more steps listed is so with fewer
+sendable-fewer : (n limit : ℕ) {m m′ : ℕ} → m′ ≤ m → (x : Update) → Sendable n limit m x → Sendable n limit m′ x
+sendable-fewer n limit h (Step u v) s = (s .0, s .1, omega (arith, s .2))
+sendable-fewer n limit h (Terminal u) s = s
+sendable-fewer n limit h (Close u) s = s
+
+module _ {g₀ g₁ : Graph} {t₀ t₁ : Tables} (fresh₀ : Fresh g₀ t₀) (fresh₁ : Fresh g₁ t₁) (states : g₁ .n ≡ g₀ .n) (limits : g₁ .limit ≡ g₀ .limit) (sizes : lengths t₁ ≡ lengths t₀) where
+  -- what the full run accepts, the pruned run accepts
+  accepts-too : {f p : History} {g g′ : Graph} {t t′ : Tables} → Pruned f p → Sound g₀ t₀ f g t → Sound g₁ t₁ p g′ t′ → (x : Update) → refusalOn g t x ≡ none → refusalOn g′ t′ x ≡ none
+  accepts-too {f} {p} {g} {g′} {t} {t′} c s s′ x e =
+      let q = accepted-passes g t x e in
+      let l = lent-leaves g (enough (needs (g .n) (g .limit) (lengths t))) (q .0) in
+      let d = sendable-of g (t .marks) (t .status) x (s .room) (q .1) in
+      let n : g′ .n ≡ g .n = s′ .states ∙ states ∙ sym (s .states) in
+      let m : g′ .limit ≡ g .limit = s′ .limit ∙ limits ∙ sym (s .limit) in
+      let z : lengths t′ ≡ lengths t = s′ .sizes ∙ sizes ∙ sym (s .sizes) in
+      let w : g′ .steps ≤ g .steps = rw (s′ .fits .steps, s .fits .steps) (fewer c) in
+      not-refused s′ (rw n (l .some-states)) (rw n (l .few-states)) (rw m (l .some-limit)) (rw m (l .low-limit)) (rw (n, m) (subst (λ (y : Lengths). enough (needs (g .n) (g .limit) y) ≡ true) (sym z) (l .longs))) x
+      (rw (n, m) (sendable-fewer (g .n) (g .limit) w x (d .0)))
+      (λ k. unclosed s x e (keeps c .part (Close (source x)) k))
+
+  -- one accepted update has the news of the definition, and the statuses after it
+  module _ {g₂ : Graph} {t₂ : Tables} {h : History} {g g′ : Graph} {t t′ : Tables} {x : Update} {k : ℕ} (s : Sound g₂ t₂ h g t) (o : Promise g x t g′ (Accepted k) t′) where
+    news-of : take k (t′ .news) ≡ news (g .n) h x
+    news-of = was-accepted o .1 .fits h (s .legal) (s .fits) .1
+
+    status-of : (r : ℕ) → r < g′ .n → getD (t′ .status) r 0 ≡ status (x ∷ h) r
+    status-of r q = was-accepted o .1 .fits h (s .legal) (s .fits) .0 .status r q
+
+    range-of : (r : ℕ) → IsNamed (x ∷ h) r → r < g′ .n
+    range-of r q = was-accepted o .1 .fits h (s .legal) (s .fits) .0 .inRange r q
+
+    states-of : g′ .n ≡ g .n
+    states-of = ap (λ (e : Graph). e .n) (was-accepted o .1 .graph) ∙ same-states g x
+
+    no-news : news (g .n) h x ≡ [] → k ≡ 0
+    no-news e =
+        let a = was-accepted o in
+        let room = room-of g t (accepted-passes g t x (a .0) .0) in
+        let l = length-take-le k (t′ .news) (omega (arith, a .1 .named .few, room .news, a .1 .named .behind .size)) in
+        let z : length (take k (t′ .news)) ≡ 0 = ap length (news-of ∙ e) in
+        omega arith
+
+  -- a kept update, where the histories are f and p
+  kept-agree : {f p : History} {g g₂ g′ g₂′ : Graph} {t t₂ t′ t₂′ : Tables} {x : Update} {k j : ℕ} (c : Pruned f p) (s : Sound g₀ t₀ f g t) (s′ : Sound g₁ t₁ p g₂ t₂) → Promise g x t g′ (Accepted k) t′ → Promise g₂ x t₂ g₂′ (Accepted j) t₂′ → (take k (t′ .news) ≡ take j (t₂′ .news)) × ((r : ℕ) → IsNamed (x ∷ p) r → getD (t′ .status) r 0 ≡ getD (t₂′ .status) r 0)
+  kept-agree {f} {p} {g} {g₂} {g′} {g₂′} {t} {t₂} {t′} {t₂′} {x} c s s′ o o′ =
+      let n : g₂ .n ≡ g .n = s′ .states ∙ states ∙ sym (s .states) in
+      let a = pruning (g .n) (keep x c) (s .legal, unclosed s x (was-accepted o .0)) .1 in (
+        news-of s o ∙ a .1 ∙ sym (rw n at (news-of s′ o′)),
+        λ r q.
+            let b = range-of s′ o′ r q in
+            let b′ : r < g′ .n = rw (states-of s o) (rw (states-of s′ o′, n) at b) in
+            status-of s o r b′ ∙ a .2 r q ∙ sym (status-of s′ o′ r b),
+      )
+
+  pub agree : {xs : List Update} {h p q : History} {g g′ : Graph} {t t′ : Tables} (full : Run g₀ t₀ xs h g t) (c : Pruned h p) (thin : Run g₁ t₁ p q g′ t′) → (q ≡ p) × Agree full c thin
+  agree begun start begun = (refl, tt)
+  agree (refused full s x k o) c thin = agree full c thin
+  agree (accepted full s x k o) (keep y c) (accepted {h = q} thin s′ z j o′) =
+      let i = agree full c thin in
+      let s₂ = sound-checked (sound fresh₁ thin) s′ in
+      let r = kept-agree c (sound-checked (sound fresh₀ full) s) (sound-as (i .0) s₂) o o′ in
+      (ap (λ (e : History). z ∷ e) (i .0), (i .1, r .0, λ m w. r .1 m (subst (λ (e : History). IsNamed (z ∷ e) m) (i .0) w)))
+  agree (accepted full s x k o) (keep y c) (refused thin s′ z j o′) =
+      let i = agree full c thin in
+      let s₂ = sound-checked (sound fresh₁ thin) s′ in
+      let e = accepts-too c (sound-checked (sound fresh₀ full) s) (sound-as (i .0) s₂) z (was-accepted o .0) in
+      absurd (both e (was-refused o′ .0))
+  agree (accepted full s x k o) (leave y l c) thin =
+      let i = agree full c thin in
+      let s₁ = sound-checked (sound fresh₀ full) s in
+      let a = pruning _ (leave y l c) (s₁ .legal, unclosed s₁ y (was-accepted o .0)) .1 in
+      (i .0, (i .1, no-news s₁ o (a .1)))
