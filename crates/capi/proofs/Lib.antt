@@ -1,0 +1,2 @@
+-- The laws that the calls for C rest on.
+pub mod Few

@@ -1,0 +1,36 @@
+-- The answers of the calls for C, as equations with the answers of the calls that they export.
+-- Assumes nothing.
+use mathlib.Core.Path.{_≡_}
+use mathlib.Core.Bool.{cond}
+use Prim.Native.Nat.{ℕ, _+_}
+use lib.Dec.{eqb}
+use Rattle.gid.specs.declared.Update.the-variants.{Step, Terminal, Close}
+use Rattle.tables.specs.declared.Graph.{Graph}
+use Rattle.tables.specs.declared.Status.{Status}
+use Rattle.tables.specs.declared.Status.the-variants.{Byte, Refused as NotAsked}
+use Rattle.tables.specs.Tables.{Tables}
+use Rattle.engine.specs.declared.Answer.{Answer}
+use Rattle.engine.specs.declared.Answer.the-variants.{Accepted, Refused}
+use Rattle.engine.specs.Promise.{Promise}
+use Rattle.capi.specs.declared.Sent.{Sent}
+use Rattle.capi.specs.declared.Sent.the-variants.{Update as Says, Malformed}
+
+-- The update of a kind byte (E, T or C) and two states.
+abbrev pub sentBy : ℕ → ℕ → ℕ → Sent
+sentBy kind u v = cond (eqb kind 69) (Says (Step u v)) (cond (eqb kind 84) (Says (Terminal u)) (cond (eqb kind 67) (Says (Close u)) Malformed))
+
+-- The number of an answer: of its news, or 65,536 plus that of its refusal.
+abbrev pub answerCode : Answer → ℕ
+answerCode (Accepted k) = k
+answerCode (Refused k) = 65536 + k
+
+abbrev pub statusCode : Status → ℕ
+statusCode (Byte b) = b
+statusCode (NotAsked k) = 65536 + k
+
+-- A call with n states, a step limit and m steps before it and m′ after it: an update keeps the engine's promise; anything else is malformed, 11, and changes nothing.
+pub data Called (n limit m : ℕ) : Sent → Tables → ℕ → Tables → ℕ → Type 0 where
+  malformed : {t : Tables} → Called n limit m Malformed t m t 65547
+  answered :
+      {x : Rattle.gid.specs.declared.Update.Update} {t t′ : Tables} {g′ : Graph} {a : Answer} {m′ r : ℕ} → Promise (record { n = n; limit = limit; steps = m }) x t g′ a t′ → m′ ≡ g′ .steps → r ≡ answerCode a →
+      Called n limit m (Says x) t m′ t′ r

@@ -1,0 +1,127 @@
+// The engine's calls for C and Rust: thin exports with the same numbers. include/radvoinis.h declares them.
+ghost use mathlib.Core.Path.{_≡_};
+ghost use Prim.Native.Nat.{_+_};
+ghost use mathlib.Core.Bool.{cond};
+ghost use lib.Dec.{leb};
+ghost use lib.ListN.{length};
+ghost use Rattle.tables.specs.Refused.{statusAnswer};
+ghost use Rattle.engine.specs.Done.{tablesOf};
+ghost use Rattle.capi.specs.Calls.{sentBy, Called, statusCode};
+use engine::Answer;
+use engine::Engine;
+use gid::Update;
+use tables::Graph;
+use tables::Status;
+
+// What a refusal adds to its number, so that it differs from every number of news and from every status.
+const REFUSED: u32 = 65536;
+
+// The number of a malformed line, for a kind that is none of E, T and C.
+const MALFORMED: u32 = 11;
+
+// The update that a kind byte and two states say, or none.
+enum Sent {
+    Update(Update),
+    Malformed,
+}
+
+fn update_of(kind: u8, first: usize, second: usize) -> Sent
+    ensures { λ r. ⌜ r ≡ sentBy kind first second ⌝ }
+{
+    match kind {
+        b'E' => Sent::Update(Update::Step {
+            from: first,
+            to: second,
+        }),
+        b'T' => Sent::Update(Update::Terminal { state: first }),
+        b'C' => Sent::Update(Update::Close { state: first }),
+        _ => Sent::Malformed,
+    }
+}
+
+// An update of the given kind (the byte E, T or C) on the caller's tables. Answers the number of its news, or 65,536 plus the number of its refusal; the number of steps is brought up to date.
+#[no_mangle]
+pub extern "C" fn radvoinis_update(
+    n: usize,
+    limit: usize,
+    steps: &mut usize,
+    kind: u8,
+    first: usize,
+    second: usize,
+    status: &mut [u8],
+    marks: &mut [u8],
+    from: &mut [u16],
+    to: &mut [u16],
+    successor: &mut [u16],
+    news: &mut [u16],
+    in_head: &mut [u16],
+    out_head: &mut [u16],
+    queue: &mut [u16],
+    visited: &mut [u16],
+    in_next: &mut [u16],
+    out_next: &mut [u16],
+) -> u32
+    ensures { λ r. ⌜ Called n limit (now (steps .entry)) (sentBy kind first second) (tablesOf (now (status .entry)) (now (marks .entry)) (now (from .entry)) (now (to .entry)) (now (successor .entry)) (now (news .entry)) (now («in_head» .entry)) (now («out_head» .entry)) (now (queue .entry)) (now (visited .entry)) (now («in_next» .entry)) (now («out_next» .entry))) (now (steps .exit)) (tablesOf (now (status .exit)) (now (marks .exit)) (now (from .exit)) (now (to .exit)) (now (successor .exit)) (now (news .exit)) (now («in_head» .exit)) (now («out_head» .exit)) (now (queue .exit)) (now (visited .exit)) (now («in_next» .exit)) (now («out_next» .exit))) r ⌝ }
+{
+    match update_of(kind, first, second) {
+        Sent::Malformed => REFUSED + MALFORMED,
+        Sent::Update(update) => {
+            let engine = Engine {
+                graph: Graph {
+                    n,
+                    limit,
+                    steps: *steps,
+                },
+            };
+            let done = engine.update(
+                update,
+                status,
+                marks,
+                from,
+                to,
+                successor,
+                news,
+                in_head,
+                out_head,
+                queue,
+                visited,
+                in_next,
+                out_next,
+            );
+            let graph = done.engine.graph;
+            *steps = graph.steps;
+            let answer = done.answer;
+            match answer {
+                Answer::Accepted(count) => count as u32,
+                Answer::Refused(number) => REFUSED + number as u32,
+            }
+        }
+    }
+}
+
+// The status question. Answers the state's byte, or 65,536 plus the number of a refusal.
+#[no_mangle]
+pub extern "C" fn radvoinis_state_status(
+    n: usize,
+    limit: usize,
+    steps: usize,
+    status: &[u8],
+    state: usize,
+) -> u32
+    ensures { λ r. ⌜ r ≡ statusCode (statusAnswer (record { n = n; limit = limit; steps = steps }) (now (status .entry)) state) ⌝ }
+{
+    let graph = Graph { n, limit, steps };
+    match graph.status(status, state) {
+        Status::Byte(byte) => byte as u32,
+        Status::Refused(number) => REFUSED + number as u32,
+    }
+}
+
+// The length of the news part: the first `count` entries of the news list, none where `count` is above its length.
+#[no_mangle]
+pub extern "C" fn radvoinis_news_len(news: &mut [u16], count: usize) -> usize
+    ensures { λ r. ⌜ r ≡ cond (leb count (length (now (news .entry)))) count 0 ⌝ }
+{
+    let part = engine::news_part(news, count);
+    part.len()
+}
