@@ -139,7 +139,7 @@ module _ {g₀ : Graph} {t₀ : Tables} where
       let q = sendable-of g (t .marks) (t .status) x (s .room) (p .1) in
       refuted (decides-closed h (source x)) (sym (closed-bit h (source x)) ∙ ap hasClosed (sym (s .fits .marks (source x) (in-range (g .n) (g .limit) (g .steps) x (q .0)))) ∙ q .1)
 
-  sound-accepted : {h : History} {g g′ : Graph} {t t′ : Tables} {x : Update} {k : ℕ} → Sound g₀ t₀ h g t → Promise g x t g′ (Accepted k) t′ → Sound g₀ t₀ (x ∷ h) g′ t′
+  pub sound-accepted : {h : History} {g g′ : Graph} {t t′ : Tables} {x : Update} {k : ℕ} → Sound g₀ t₀ h g t → Promise g x t g′ (Accepted k) t′ → Sound g₀ t₀ (x ∷ h) g′ t′
   sound-accepted {h} {g} {g′} {t} {t′} {x} s p =
       let a = was-accepted p in
       let q = accepted-passes g t x (a .0) in

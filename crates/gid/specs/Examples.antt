@@ -1,41 +1,11 @@
 -- The marked examples of document 01, as one list of cases. proofs/Examples.antt proves them of the definitions.
 -- Assumes nothing.
-use mathlib.Core.Bool.{true}
-use mathlib.Core.List.{List, [], _∷_, _++_, map}
-use mathlib.Core.Option.{Option, some, none}
-use Prim.Native.Nat.{ℕ, zero, suc}
+use mathlib.Core.List.{List, [], _∷_}
+use Prim.Native.Nat.{ℕ}
 use Rattle.gid.specs.declared.Update.{Update}
 use Rattle.gid.specs.declared.Update.the-variants.{Step, Terminal, Close}
-use Rattle.gid.specs.Histories.{History}
-use Rattle.gid.specs.Statuses.{isClosed, isDead, status}
-use Rattle.gid.specs.News.{news}
-use Rattle.gid.specs.Refusals.{Given, refusal}
-
--- What comes of an update: it is refused with a number, or accepted with its news.
-pub data Outcome : Type 0 where
-  refused : ℕ → Outcome
-  accepted : List ℕ → Outcome
-
-abbrev pub countSteps : History → ℕ
-countSteps [] = 0
-countSteps (Step u v ∷ h) = suc (countSteps h)
-countSteps (Terminal u ∷ h) = countSteps h
-countSteps (Close u ∷ h) = countSteps h
-
--- What the tables say after a history, with tables that are long enough.
-unfoldable pub given : ℕ → ℕ → History → Given
-given n limit h = record { n = n; limit = limit; steps = countSteps h; long = true; closed = isClosed h; dead = isDead h }
-
--- The outcome of an update after a history, and the history after it.
-unfoldable pub outcome : ℕ → ℕ → History → Update → Outcome
-outcome n limit h x = elim (refusal (given n limit h) x) [ none ↦ accepted (news n h x) | some k ↦ refused k ]
-
-unfoldable pub after : ℕ → ℕ → History → Update → History
-after n limit h x = elim (refusal (given n limit h) x) [ none ↦ x ∷ h | some k ↦ h ]
-
-unfoldable pub afterAll : ℕ → ℕ → History → List Update → History
-afterAll n limit h [] = h
-afterAll n limit h (x ∷ l) = afterAll n limit (after n limit h x) l
+use Rattle.gid.specs.Statuses.{status}
+use Rattle.gid.specs.Outcomes.{Outcome, refused, accepted, outcome, after, afterAll}
 
 -- What is seen of a case: the outcome of its last update, and the statuses of the states 0, 1 and 2 after it.
 pub record Seen : Type 0 where

@@ -7,4 +7,5 @@ pub mod News
 pub mod Successors
 pub mod Pruning
 pub mod Refusals
+pub mod Outcomes
 pub mod Examples

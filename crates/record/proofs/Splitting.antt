@@ -1,0 +1,282 @@
+-- The splitter, fed a record byte by byte, answers the items of the record. The line buffer holds what a line's judgement needs of it, whatever the line's length.
+-- Assumes nothing.
+use mathlib.Core.Path.{_≡_, refl, sym, _∙_, ap}
+use mathlib.Core.Logic.{_⊎_, inl, inr, ⊎-elim}
+use mathlib.Core.Bool.{Bool, true, false, not, cond, _&&_, and-false}
+use mathlib.Core.List.{List, [], _∷_, _++_, append-assoc, append-nil}
+use mathlib.Core.Option.{Option, some, none}
+use Prim.Native.Nat.{ℕ, suc, _+_, _≤_, _<_}
+use native.Mathlib.Omega.{arith}
+use native.Mathlib.Numerals.{add-one}
+use native.Mathlib.Decide.{decLt, ℕ-discrete}
+use lib.Dec.{leb, ltb, eqb}
+use lib.ListN.{length, take, drop, set, length-append, length-drop, length-set, drop-of-length-le}
+use lib.Seq.{take-suc-set, drop-drop, drop-at}
+use borrow.Author.Tests.{eq-eqb, ne-eqb, le-leb, lt-leb, eqb-true, eqb-false, lt-ltb, le-ltb, ltb-true, ltb-false}
+use Rattle.gid.specs.declared.Update.{Update}
+use Rattle.record.specs.declared.line.Line.{Line}
+use Rattle.record.specs.declared.splitter.Answer.{Answer}
+use Rattle.record.specs.declared.splitter.Answer.the-variants.{Nothing, BadNames, TooMany}
+use Rattle.record.specs.declared.splitter.Splitter.{Splitter}
+use Rattle.record.specs.declared.splitter.Fed.{Fed}
+use Rattle.record.specs.Text.{names}
+use Rattle.record.specs.Grammar.{lineOf}
+use Rattle.record.specs.Lines.{lines, before}
+use Rattle.record.specs.Items.{same, item, further, all, items}
+use Rattle.record.specs.Buffer.{emptyLine, withByte, withBytes, lineIn, isNamesIn}
+use Rattle.record.specs.Parsing.{parsed}
+use Rattle.record.specs.Splitting.{at, fed, advanced, started, afterFirst, afterFurther, afterLine, afterByte, afterPart, atEnd, told, run, answered}
+use Rattle.record.proofs.Sameness.{other-length}
+
+pub answered-item : (o : Option Update) (n : ℕ) → answered (parsed o) n ≡ item n o
+answered-item none n = refl
+answered-item (some x) n = refl
+
+-- The buffer b holds a line whose bytes so far are l.
+pub data Holds (b : Line) (l : List ℕ) : Type 0 where
+  short : length l ≤ 16 → b .len ≡ length l → take (length l) (b .bytes) ≡ l → length (b .bytes) ≡ 16 → Holds b l
+  long : 16 < length l → 16 < b .len → Holds b l
+
+pub holds-empty : Holds emptyLine []
+holds-empty = short (omega arith) refl refl refl
+
+pub holds-more : (b : Line) (l : List ℕ) (c : ℕ) → Holds b l → Holds (withByte b c) (l ++ (c ∷ []))
+unfolding withByte
+holds-more b l c (long p q) =
+    rw (le-leb 16 (b .len) (omega arith)) (long (rw length-append (omega arith)) (omega arith))
+holds-more b l c (short p q r s) = by (decLt (length l) 16)
+  where
+    by : Dec (length l < 16) → Holds (cond (leb 16 (b .len)) (record { bytes = b .bytes; len = 17 }) (record { bytes = set (b .bytes) (b .len) c; len = b .len + 1 })) (l ++ (c ∷ []))
+    by (yes h) =
+        let m : length (l ++ (c ∷ [])) ≡ suc (length l) = length-append l (c ∷ []) ∙ add-one (length l) in
+        rw (lt-leb 16 (b .len) (omega arith))
+        (short
+        (omega arith)
+        (omega arith)
+        (rw (m, q, take-suc-set (b .bytes) (length l) c (omega arith), r) refl)
+        (length-set (b .bytes) (b .len) c ∙ s))
+    by (no h) =
+        rw (le-leb 16 (b .len) (omega arith)) (long (rw length-append (omega arith)) (omega arith))
+
+pub line-held : (b : Line) (l : List ℕ) → Holds b l → lineIn b ≡ lineOf l
+unfolding lineOf
+line-held b l (short p q r s) = rw (le-leb (b .len) 16 (omega arith), q, r)
+line-held b l (long p q) = rw (lt-leb (b .len) 16 q, lt-leb (length l) 16 p)
+
+pub names-held : (b : Line) (l : List ℕ) → Holds b l → isNamesIn b ≡ same l names
+names-held b l (short p q r s) = rw (le-leb (b .len) 16 (omega arith), q, r)
+names-held b l (long p q) = rw (lt-leb (b .len) 16 q) (sym (other-length l names (λ e. omega arith)))
+
+held-length : (b : Line) (l : List ℕ) → Holds b l → eqb (b .len) 0 ≡ eqb (length l) 0
+held-length b l (short p q r s) = rw q
+held-length b l (long p q) = rw (ne-eqb (b .len) 0 (λ e. omega arith), ne-eqb (length l) 0 (λ e. omega arith))
+
+-- The bytes have no newline.
+pub data Unbroken : List ℕ → Type 0 where
+  none′ : Unbroken []
+  more : {b : ℕ} {l : List ℕ} → (b ≡ 10 → ⊥) → Unbroken l → Unbroken (b ∷ l)
+
+unbroken-more : {l : List ℕ} {b : ℕ} → (b ≡ 10 → ⊥) → Unbroken l → Unbroken (l ++ (b ∷ []))
+unbroken-more n none′ = more n none′
+unbroken-more n (more m u) = more m (unbroken-more n u)
+
+lines-break : {l : List ℕ} (s : List ℕ) → Unbroken l → lines (l ++ (10 ∷ s)) ≡ l ∷ lines s
+unfolding lines
+lines-break s none′ = refl
+lines-break s (more {b = b} {l = l} n u) = rw (ne-eqb b 10 n, lines-break s u)
+
+lines-last : (b : ℕ) (l : List ℕ) → Unbroken (b ∷ l) → lines (b ∷ l) ≡ (b ∷ l) ∷ []
+unfolding lines
+lines-last b [] (more n u) = rw (ne-eqb b 10 n)
+lines-last b (c ∷ l) (more n u) = rw (ne-eqb b 10 n, lines-last c l u)
+
+told-item : (n : ℕ) (o : Option Update) → told (item n o) ≡ item n o ∷ []
+told-item n none = refl
+told-item n (some x) = refl
+
+either-way : (t : Bool) (a : Answer) → a ≡ Nothing → told (cond t Nothing a) ≡ []
+either-way true a e = refl
+either-way false a e = rw e
+
+-- After a 10 or a 12 nothing more is told.
+pub run-stopped : (s : List ℕ) (b : Line) (n : ℕ) → run (at b n true) s ≡ []
+unfolding run atEnd afterLine afterByte
+run-stopped [] b n = either-way (eqb (b .len) 0 && not (eqb n 1)) Nothing refl
+run-stopped (c ∷ s) b n = by (eqb c 10) (run-stopped s b n) (run-stopped s (withByte b c) n)
+  where
+    by : (t : Bool) → run (at b n true) s ≡ [] → run (at (withByte b c) n true) s ≡ [] → told (cond t (fed (at b n true) Nothing) (fed (at (withByte b c) n true) Nothing) .answer) ++ run (cond t (fed (at b n true) Nothing) (fed (at (withByte b c) n true) Nothing) .splitter) s ≡ []
+    by true p q = p
+    by false p q = q
+
+-- What is told once a line has ended, and behind it.
+onward : Fed → List ℕ → List Answer
+onward f s = told (f .answer) ++ run (f .splitter) s
+
+-- A byte that is no newline goes to the line.
+run-byte : (c : ℕ) (s : List ℕ) (b : Line) (n : ℕ) (q : Bool) → (c ≡ 10 → ⊥) → run (at b n q) (c ∷ s) ≡ run (at (withByte b c) n q) s
+unfolding run afterByte
+run-byte c s b n q h = rw (ne-eqb c 10 h)
+
+run-break : (c : ℕ) (s : List ℕ) (b : Line) (n : ℕ) (q : Bool) → c ≡ 10 → run (at b n q) (c ∷ s) ≡ onward (afterLine (at b n q)) s
+unfolding run afterByte onward
+run-break c s b n q h = rw (eq-eqb c 10 h)
+
+module _ (n : ℕ) (h : 2 ≤ n) where
+  -- a further line has ended
+  further-line : (l : List ℕ) (b : Line) → Holds b l → (s : List ℕ) → ((m : ℕ) → 2 ≤ m → run (at emptyLine m false) s ≡ further m (lines s)) → onward (afterLine (at b n false)) s ≡ further n (l ∷ lines s)
+  unfolding onward afterLine afterFurther further
+  further-line l b k s ih = rw (ne-eqb n 1 (λ e. omega arith), line-held b l k) (by (leb n 65535))
+    where
+      by : (t : Bool) → onward (cond t (fed (at emptyLine (n + 1) false) (item n (lineOf l))) (fed (at emptyLine n true) TooMany)) s ≡ cond t (item n (lineOf l) ∷ further (n + 1) (lines s)) (TooMany ∷ [])
+      by true = rw (told-item n (lineOf l), ih (n + 1) (omega arith)) refl
+      by false = rw (run-stopped s emptyLine n) refl
+
+  -- the end of the record, in a further line
+  further-told : (l : List ℕ) (b : Line) → Holds b l → told (afterLine (at b n false) .answer) ≡ further n (l ∷ [])
+  unfolding afterLine afterFurther further
+  further-told l b k = rw (ne-eqb n 1 (λ e. omega arith), line-held b l k) (by (leb n 65535))
+    where
+      by : (t : Bool) → told (cond t (fed (at emptyLine (n + 1) false) (item n (lineOf l))) (fed (at emptyLine n true) TooMany) .answer) ≡ cond t (item n (lineOf l) ∷ []) (TooMany ∷ [])
+      by true = told-item n (lineOf l)
+      by false = refl
+
+  further-end : (l : List ℕ) (b : Line) → Holds b l → Unbroken l → run (at b n false) [] ≡ further n (lines l)
+  unfolding run atEnd lines further
+  further-end [] b k u = rw (held-length b [] k, ne-eqb n 1 (λ e. omega arith)) refl
+  further-end (x ∷ l) b k u =
+      rw (held-length b (x ∷ l) k, ne-eqb (length (x ∷ l)) 0 (λ e. omega arith), lines-last x l u) (further-told (x ∷ l) b k)
+
+further-all : (s : List ℕ) (n : ℕ) → 2 ≤ n → (l : List ℕ) (b : Line) → Holds b l → Unbroken l → run (at b n false) s ≡ further n (lines (l ++ s))
+further-all [] n h l b k u = rw append-nil (further-end n h l b k u)
+further-all (c ∷ s) n h l b k u = by (ℕ-discrete c 10) (further-all s)
+  where
+    by : Dec (c ≡ 10) → ((m : ℕ) → 2 ≤ m → (l : List ℕ) (b : Line) → Holds b l → Unbroken l → run (at b m false) s ≡ further m (lines (l ++ s))) → run (at b n false) (c ∷ s) ≡ further n (lines (l ++ (c ∷ s)))
+    by (yes e) ih =
+        run-break c s b n false e ∙ further-line n h l b k s (λ m p. ih m p [] emptyLine holds-empty none′) ∙ ap (further n) (sym (lines-break s u) ∙ ap (λ (x : ℕ). lines (l ++ (x ∷ s))) (sym e))
+    by (no e) ih =
+        run-byte c s b n false e ∙ ih n h (l ++ (c ∷ [])) (withByte b c) (holds-more b l c k) (unbroken-more e u) ∙ ap (λ (x : List ℕ). further n (lines x)) (append-assoc l (c ∷ []) s)
+
+-- the first line has ended
+first-line : (l : List ℕ) (b : Line) → Holds b l → (s : List ℕ) → onward (afterLine (at b 1 false)) s ≡ all (l ∷ lines s)
+unfolding onward afterLine afterFirst all
+first-line l b k s = rw (names-held b l k) (by (same l names))
+  where
+    by : (t : Bool) → onward (cond t (fed (at emptyLine 2 false) Nothing) (fed (at emptyLine 2 true) BadNames)) s ≡ cond t (further 2 (lines s)) (BadNames ∷ [])
+    by true = further-all s 2 (omega arith) [] emptyLine holds-empty none′
+    by false = rw (run-stopped s emptyLine 2) refl
+
+first-told : (l : List ℕ) (b : Line) → Holds b l → told (afterLine (at b 1 false) .answer) ≡ all (l ∷ [])
+unfolding afterLine afterFirst all further
+first-told l b k = rw (names-held b l k) (by (same l names))
+  where
+    by : (t : Bool) → told (cond t (fed (at emptyLine 2 false) Nothing) (fed (at emptyLine 2 true) BadNames) .answer) ≡ cond t [] (BadNames ∷ [])
+    by true = refl
+    by false = refl
+
+-- empty input is told apart from a first line that is not the names line by nothing
+no-first : all [] ≡ all ([] ∷ [])
+unfolding all same
+no-first = refl
+
+first-end : (l : List ℕ) (b : Line) → Holds b l → Unbroken l → run (at b 1 false) [] ≡ all (lines l)
+unfolding run atEnd lines
+first-end [] b k u = rw (and-false (eqb (b .len) 0), no-first) (first-told [] b k)
+first-end (x ∷ l) b k u = rw (and-false (eqb (b .len) 0), lines-last x l u) (first-told (x ∷ l) b k)
+
+first-all : (s l : List ℕ) (b : Line) → Holds b l → Unbroken l → run (at b 1 false) s ≡ all (lines (l ++ s))
+first-all [] l b k u = rw append-nil (first-end l b k u)
+first-all (c ∷ s) l b k u = by (ℕ-discrete c 10) (first-all s)
+  where
+    by : Dec (c ≡ 10) → ((l : List ℕ) (b : Line) → Holds b l → Unbroken l → run (at b 1 false) s ≡ all (lines (l ++ s))) → run (at b 1 false) (c ∷ s) ≡ all (lines (l ++ (c ∷ s)))
+    by (yes e) ih =
+        run-break c s b 1 false e ∙ first-line l b k s ∙ ap all (sym (lines-break s u) ∙ ap (λ (x : ℕ). lines (l ++ (x ∷ s))) (sym e))
+    by (no e) ih =
+        run-byte c s b 1 false e ∙ ih (l ++ (c ∷ [])) (withByte b c) (holds-more b l c k) (unbroken-more e u) ∙ ap (λ (x : List ℕ). all (lines x)) (append-assoc l (c ∷ []) s)
+
+-- A record of any bytes and any length, fed byte by byte from the start to its end: the answers that say something are its items.
+pub run-items : (s : List ℕ) → run started s ≡ items s
+unfolding items
+run-items s = first-all s [] emptyLine holds-empty none′
+
+-- Bytes up to a newline go to the line.
+run-unbroken : {u : List ℕ} (s : List ℕ) (b : Line) (n : ℕ) (q : Bool) → Unbroken u → run (at b n q) (u ++ s) ≡ run (at (withBytes b u) n q) s
+unfolding withBytes
+run-unbroken s b n q none′ = refl
+run-unbroken s b n q (more {b = c} {l = l} h u) = run-byte c (l ++ s) b n q h ∙ run-unbroken s (withByte b c) n q u
+
+-- Where bytes have a newline, and that there is none before it.
+Broken : List ℕ → Type 0
+Broken t = (before t ≡ t) ⊎ ((u : List ℕ) × (t ≡ before t ++ (10 ∷ u)))
+
+broken : (t : List ℕ) → Unbroken (before t) × Broken t
+unfolding before Broken
+broken [] = (none′, inl refl)
+broken (c ∷ t) = by (eqb c 10) refl (broken t)
+  where
+    by : (q : Bool) → eqb c 10 ≡ q → Unbroken (before t) × ((before t ≡ t) ⊎ ((u : List ℕ) × (t ≡ before t ++ (10 ∷ u)))) → Unbroken (cond q [] (c ∷ before t)) × ((cond q [] (c ∷ before t) ≡ c ∷ t) ⊎ ((u : List ℕ) × (c ∷ t ≡ cond q [] (c ∷ before t) ++ (10 ∷ u))))
+    by true e h = (none′, inr (t, rw (eqb-true c 10 e) refl))
+    by false e h =
+        (more (eqb-false c 10 e) (h .0), ⊎-elim (λ p. inl (ap (λ (l : List ℕ). c ∷ l) p)) (λ p. inr (p .0, ap (λ (l : List ℕ). c ∷ l) (p .1))) (h .1))
+
+module _ (s : Splitter) (l r : List ℕ) (i : ℕ) where
+  -- What feeding up to the end of a line says of the bytes fed one by one.
+  Parted : Type 0
+  Parted = run s (drop i l ++ r) ≡ told (afterPart s l i .answer) ++ run (afterPart s l i .splitter) (drop (afterPart s l i .next) l ++ r)
+
+  unended : (t : List ℕ) → drop i l ≡ t → before t ≡ t → Unbroken (before t) → Parted
+  unfolding afterPart Parted
+  unended t d e u =
+      let n : length l ≤ i + length (before t) = omega (arith, length-drop i l, ap length d, ap length e) in
+      rw (d, le-ltb (i + length (before t)) (length l) n, drop-of-length-le l n)
+      (ap (λ (x : List ℕ). run s (x ++ r)) (sym e) ∙ run-unbroken r (s .line) (s .number) (s .stopped) u)
+
+  ended : (t u : List ℕ) → drop i l ≡ t → t ≡ before t ++ (10 ∷ u) → Unbroken (before t) → Parted
+  unfolding afterPart Parted onward
+  ended t u d e k =
+      let m : length t ≡ length (before t) + suc (length u) = ap length e ∙ length-append (before t) (10 ∷ u) in
+      let n : i + length (before t) < length l = omega (arith, length-drop i l, ap length d) in
+      rw (d, lt-ltb (i + length (before t)) (length l) n, behind)
+      (ap (λ (x : List ℕ). run s (x ++ r)) e ∙
+      ap (run s) (append-assoc (before t) (10 ∷ u) r) ∙
+      run-unbroken (10 ∷ u ++ r) (s .line) (s .number) (s .stopped) k ∙
+      run-break 10 (u ++ r) (withBytes (s .line) (before t)) (s .number) (s .stopped) refl)
+    where
+      behind : drop (i + length (before t) + 1) l ≡ u
+      behind =
+          let z : i + length (before t) + 1 ≡ i + (length (before t) + 1) = omega arith in
+          ap (λ (x : ℕ). drop x l) z ∙
+          sym (drop-drop (length (before t) + 1) i l) ∙
+          ap (drop (length (before t) + 1)) (d ∙ e ∙ sym (append-assoc (before t) (10 ∷ []) u)) ∙
+          drop-at (before t ++ (10 ∷ [])) u (length (before t) + 1) (length-append (before t) (10 ∷ []))
+
+  -- Feeding up to the end of a line, at once, is feeding the bytes one by one.
+  pub run-part : run s (drop i l ++ r) ≡ told (afterPart s l i .answer) ++ run (afterPart s l i .splitter) (drop (afterPart s l i .next) l ++ r)
+  unfolding Parted Broken
+  run-part = ⊎-elim (λ e. unended (drop i l) refl e (broken (drop i l) .0)) (λ e. ended (drop i l) (e .0) refl (e .1) (broken (drop i l) .0)) (broken (drop i l) .1)
+
+before-length : (t : List ℕ) → length (before t) ≤ length t
+unfolding before
+before-length [] = omega arith
+before-length (c ∷ t) = by (eqb c 10) (before-length t)
+  where
+    by : (q : Bool) → length (before t) ≤ length t → length (cond q [] (c ∷ before t)) ≤ suc (length t)
+    by true h = omega arith
+    by false h = omega arith
+
+-- It goes on, and not past the end.
+pub part-next : (s : Splitter) (l : List ℕ) (i : ℕ) → i < length l → (i < afterPart s l i .next) × (afterPart s l i .next ≤ length l)
+unfolding afterPart
+part-next s l i h = by (ltb (i + length (before (drop i l))) (length l)) refl
+  where
+    t : Splitter
+    t = at (withBytes (s .line) (before (drop i l))) (s .number) (s .stopped)
+
+    k : ℕ
+    k = i + length (before (drop i l))
+
+    by : (q : Bool) → ltb k (length l) ≡ q → (i < cond q (advanced (afterLine t) (k + 1)) (advanced (fed t Nothing) k) .next) × (cond q (advanced (afterLine t) (k + 1)) (advanced (fed t Nothing) k) .next ≤ length l)
+    by true e = (omega arith, omega (arith, ltb-true k (length l) e))
+    by false e = (
+      omega (arith, ltb-false k (length l) e),
+      omega (arith, before-length (drop i l), length-drop i l),
+    )

@@ -1,0 +1,70 @@
+-- What the bytes of a line are: an update, or none, where the line is malformed. Document 01, "The record". proofs/Reading.antt proves that these are the texts of updates and nothing else.
+-- Assumes nothing.
+use mathlib.Core.Bool.{Bool, cond, _&&_}
+use mathlib.Core.List.{List, [], _∷_}
+use mathlib.Core.Option.{Option, some, none}
+use Prim.Native.Nat.{ℕ, _+_, _*_, _-_}
+use lib.Dec.{leb, eqb}
+use lib.ListN.{length}
+use Rattle.gid.specs.declared.Update.{Update}
+use Rattle.gid.specs.declared.Update.the-variants.{Step, Terminal, Close}
+use Rattle.record.specs.Text.{maxValue}
+
+-- What was read at the front of some bytes, and the bytes behind it.
+pub record Front : Type 0 where
+  pub number : ℕ
+  pub rest : List ℕ
+
+abbrev pub isDigit : ℕ → Bool
+isDigit b = leb 48 b && leb b 57
+
+-- The rest of a value, the digits read so far being n: all digits that follow. "0 to 65,535"
+unfoldable pub digits : ℕ → List ℕ → Option Front
+digits n [] = some (record { number = n; rest = [] })
+digits n (b ∷ l) =
+    cond (isDigit b)
+    (cond (leb (n * 10 + (b - 48)) maxValue) (digits (n * 10 + (b - 48)) l) none)
+    (some (record { number = n; rest = b ∷ l }))
+
+-- "A value is decimal, 0 to 65,535, without leading zeros": a zero is a value by itself, and any other digit starts one.
+unfoldable pub value : List ℕ → Option Front
+value [] = none
+value (b ∷ l) = cond (eqb b 48) (some (record { number = 0; rest = l })) (cond (isDigit b) (digits (b - 48) l) none)
+
+-- What follows the byte b, where the bytes start with it.
+unfoldable pub behind : ℕ → List ℕ → Option (List ℕ)
+behind b [] = none
+behind b (c ∷ l) = cond (eqb c b) (some l) none
+
+infixl 20 _>>=_
+-- Where the first reading fails, all fails; else the second goes on with what was read.
+abbrev pub _>>=_ : {A B : Type 0} → Option A → (A → Option B) → Option B
+_>>=_ none f = none
+_>>=_ (some a) f = f a
+
+-- The line ends here.
+abbrev pub whole : Update → List ℕ → Option Update
+whole x [] = some x
+whole x (b ∷ l) = none
+
+-- "`E 3 4` a step": `to` is a value.
+unfoldable pub step : ℕ → List ℕ → Option Update
+step from l = value l >>= λ to. whole (Step from (to .number)) (to .rest)
+
+-- "`T 3 -` a terminal mark, `C 3 -` a close": "`to` is `-` exactly for T and C."
+unfoldable pub mark : Update → List ℕ → Option Update
+mark x l = behind 45 l >>= whole x
+
+-- By the kind, E, T or C: the update from a value, with the bytes of `to`.
+unfoldable pub update : ℕ → ℕ → List ℕ → Option Update
+update kind from to =
+    cond (eqb kind 69) (step from to) (cond (eqb kind 84) (mark (Terminal from) to) (cond (eqb kind 67) (mark (Close from) to) none))
+
+-- The kind, a space, a value, a space, and `to`: "one space between".
+unfoldable pub fields : List ℕ → Option Update
+fields [] = none
+fields (kind ∷ l) = behind 32 l >>= value >>= λ from. behind 32 (from .rest) >>= update kind (from .number)
+
+-- "A line of more than 16 bytes, a blank line or a carriage return is malformed."
+unfoldable pub lineOf : List ℕ → Option Update
+lineOf l = cond (leb (length l) 16) (fields l) none

@@ -1,0 +1,70 @@
+-- The splitter's steps: what a byte and the end of the record do. proofs/Splitting.antt proves that the answers are the items of the record.
+-- Assumes nothing.
+use mathlib.Core.Bool.{Bool, true, false, not, cond, _&&_}
+use mathlib.Core.List.{List, [], _∷_, _++_}
+use Prim.Native.Nat.{ℕ, _+_}
+use lib.Dec.{leb, ltb, eqb}
+use lib.ListN.{length}
+use Rattle.record.specs.declared.line.Line.{Line}
+use Rattle.record.specs.declared.grammar.Parsed.{Parsed}
+use Rattle.record.specs.declared.grammar.Parsed.the-variants.{Update as IsUpdate, Malformed as IsMalformed}
+use Rattle.record.specs.declared.splitter.Answer.{Answer}
+use Rattle.record.specs.declared.splitter.Answer.the-variants.{Nothing, Update as Read, Malformed, BadNames, TooMany}
+use Rattle.record.specs.declared.splitter.Splitter.{Splitter}
+use Rattle.record.specs.declared.splitter.Fed.{Fed}
+use Rattle.record.specs.declared.splitter.Advanced.{Advanced}
+use Rattle.record.specs.Items.{item}
+use Rattle.record.specs.Buffer.{emptyLine, withByte, filledFrom, lineIn, isNamesIn}
+
+abbrev pub at : Line → ℕ → Bool → Splitter
+at l n stopped = record { line = l; number = n; stopped = stopped }
+
+abbrev pub fed : Splitter → Answer → Fed
+fed s a = record { splitter = s; answer = a }
+
+abbrev pub advanced : Fed → ℕ → Advanced
+advanced f i = record { splitter = f .splitter; answer = f .answer; next = i }
+
+abbrev pub started : Splitter
+started = at emptyLine 1 false
+
+-- The first line has ended: the names line.
+unfoldable pub afterFirst : Line → Fed
+afterFirst l = cond (isNamesIn l) (fed (at emptyLine 2 false) Nothing) (fed (at emptyLine 2 true) BadNames)
+
+-- A further line has ended.
+unfoldable pub afterFurther : Line → ℕ → Fed
+afterFurther l n = cond (leb n 65535) (fed (at emptyLine (n + 1) false) (item n (lineIn l))) (fed (at emptyLine n true) TooMany)
+
+unfoldable pub afterLine : Splitter → Fed
+afterLine s = cond (s .stopped) (fed s Nothing) (cond (eqb (s .number) 1) (afterFirst (s .line)) (afterFurther (s .line) (s .number)))
+
+unfoldable pub afterByte : Splitter → ℕ → Fed
+afterByte s b = cond (eqb b 10) (afterLine s) (fed (at (withByte (s .line) b) (s .number) (s .stopped)) Nothing)
+
+-- The bytes of s from an index on, up to the end of a line or of s: the line takes those before the newline, and has ended where there is one.
+unfoldable pub afterPart : Splitter → List ℕ → ℕ → Advanced
+afterPart s l i =
+    let f = filledFrom (s .line) l i in
+    let t = at (f .line) (s .number) (s .stopped) in
+    cond (ltb (f .next) (length l)) (advanced (afterLine t) (f .next + 1)) (advanced (fed t Nothing) (f .next))
+
+unfoldable pub atEnd : Splitter → Answer
+atEnd s = cond (eqb (s .line .len) 0 && not (eqb (s .number) 1)) Nothing (afterLine s .answer)
+
+-- An answer that says something.
+abbrev pub told : Answer → List Answer
+told Nothing = []
+told (Read x) = Read x ∷ []
+told (Malformed n) = Malformed n ∷ []
+told BadNames = BadNames ∷ []
+told TooMany = TooMany ∷ []
+
+-- All that is told while bytes are fed one by one, and at the end.
+unfoldable pub run : Splitter → List ℕ → List Answer
+run s [] = told (atEnd s)
+run s (b ∷ l) = told (afterByte s b .answer) ++ run (afterByte s b .splitter) l
+
+abbrev pub answered : Parsed → ℕ → Answer
+answered (IsUpdate x) n = Read (record { line = n; update = x })
+answered IsMalformed n = Malformed n

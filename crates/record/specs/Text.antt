@@ -1,0 +1,59 @@
+-- The text of a record's lines, as bytes. Document 01, "The record".
+-- Assumes nothing.
+use mathlib.Core.Path.{_≡_}
+use mathlib.Core.Bool.{cond}
+use mathlib.Core.List.{List, [], _∷_, _++_}
+use mathlib.Core.Option.{Option, some, none}
+use Prim.Native.Nat.{ℕ, zero, suc, _+_, _/_, _%_, _≤_}
+use lib.Dec.{ltb}
+use lib.ListN.{length, take, drop}
+use Rattle.gid.specs.declared.Update.{Update}
+use Rattle.gid.specs.declared.Update.the-variants.{Step, Terminal, Close}
+use Rattle.gid.specs.Updates.{values}
+
+-- The digits of n, the last one behind those of n / 10. The first argument bounds their number.
+unfoldable pub digitsOf : ℕ → ℕ → List ℕ
+digitsOf zero n = (48 + n) ∷ []
+digitsOf (suc k) n =
+    let more = digitsOf k (n / 10) ++ ((48 + n % 10) ∷ []) in
+    cond (ltb n 10) ((48 + n) ∷ []) more
+
+-- "A value is decimal, .. without leading zeros." `0` is one digit.
+unfoldable pub decimal : ℕ → List ℕ
+decimal n = digitsOf n n
+
+-- "The first line is `kind from to`."
+abbrev pub names : List ℕ
+names = 107 ∷ 105 ∷ 110 ∷ 100 ∷ 32 ∷ 102 ∷ 114 ∷ 111 ∷ 109 ∷ 32 ∷ 116 ∷ 111 ∷ []
+
+-- A line up to its last value: the kind, a space, `from`, a space.
+abbrev pub head : ℕ → ℕ → List ℕ
+head kind from = kind ∷ 32 ∷ decimal from ++ (32 ∷ [])
+
+-- "`to` is `-` exactly for T and C."
+abbrev pub last : Option ℕ → List ℕ
+last none = 45 ∷ []
+last (some to) = decimal to
+
+-- "Each further line is an update with these values, one space between: `E 3 4` a step, `T 3 -` a terminal mark, `C 3 -` a close." Without the newline.
+abbrev pub text : Update → List ℕ
+text x = head (values x .kind) (values x .from) ++ last (values x .to)
+
+-- "A value is decimal, 0 to 65,535"
+abbrev pub maxValue : ℕ
+maxValue = 65535
+
+abbrev pub Within : Update → Type 0
+Within (Step u v) = (u ≤ maxValue) × (v ≤ maxValue)
+Within (Terminal u) = u ≤ maxValue
+Within (Close u) = u ≤ maxValue
+
+-- A call wrote the bytes t at the front of a buffer, left the others, and returned the number of bytes.
+pub record Wrote (t entry exit : List ℕ) (r : ℕ) : Type 0 where
+  pub bytes : exit ≡ t ++ drop (length t) entry
+  pub count : r ≡ length t
+
+-- The same at a place of the buffer. The answer is the place after the bytes.
+pub record WroteAt (at : ℕ) (t entry exit : List ℕ) (r : ℕ) : Type 0 where
+  pub bytes : exit ≡ take at entry ++ (t ++ drop (at + length t) entry)
+  pub after : r ≡ at + length t

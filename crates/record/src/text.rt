@@ -1,0 +1,102 @@
+// Text: bytes, decimal numbers and the lines of a record, each written at the front of a lent buffer. Each call returns the length of what it wrote.
+ghost use mathlib.Core.Path.{_≡_};
+ghost use mathlib.Core.List.{List, [], _∷_, _++_};
+ghost use Prim.Native.Nat.{ℕ, _≤_, _<_, _+_};
+ghost use lib.ListN.{length};
+ghost use Rattle.gid.specs.declared.Update.{Update};
+ghost use mathlib.Core.Option.{none};
+ghost use Rattle.record.specs.Text.{decimal, head, last, text, Wrote, WroteAt};
+use gid::Update;
+
+pub fn put_byte(buf: &mut [u8], b: u8) -> usize
+    requires { ⌜ 0 < length (now buf) ⌝ }
+    ensures { λ r. ⌜ Wrote (b ∷ []) (now (buf .entry)) (now (buf .exit)) r ⌝ }
+{
+    buf[0] = b;
+    1
+}
+
+pub fn put_bytes(buf: &mut [u8], s: &[u8]) -> usize
+    requires { ⌜ length (now s) ≤ length (now buf) ⌝ }
+    ensures { λ r. ⌜ Wrote (now (s .entry)) (now (buf .entry)) (now (buf .exit)) r ⌝ }
+{
+    let mut i = 0;
+    while i < s.len() {
+        buf[i] = s[i];
+        i += 1;
+    }
+    i
+}
+
+// The decimal text of a number.
+pub fn put_number(buf: &mut [u8], value: usize) -> usize
+    requires { ⌜ length (decimal value) ≤ length (now buf) ⌝ }
+    ensures { λ r. ⌜ Wrote (decimal value) (now (buf .entry)) (now (buf .exit)) r ⌝ }
+{
+    if value < 10 {
+        return put_byte(buf, digit(value));
+    }
+    let at = put_number(buf, value / 10);
+    buf[at] = digit(value % 10);
+    at + 1
+}
+
+fn digit(d: usize) -> u8
+    requires { ⌜ d < 10 ⌝ }
+    ensures { λ r. ⌜ r ≡ 48 + d ⌝ }
+{
+    b'0' + d as u8
+}
+
+// The line of an update, with its newline.
+pub fn put_update(buf: &mut [u8], update: Update) -> usize
+    requires { ⌜ length (text update) < length (now buf) ⌝ }
+    ensures { λ r. ⌜ Wrote (text update ++ (10 ∷ [])) (now (buf .entry)) (now (buf .exit)) r ⌝ }
+{
+    match update {
+        Update::Step { from, to } => put_step(buf, from, to),
+        Update::Terminal { state } => put_mark(buf, b'T', state),
+        Update::Close { state } => put_mark(buf, b'C', state),
+    }
+}
+
+fn put_step(buf: &mut [u8], from: usize, to: usize) -> usize
+    requires { ⌜ length (text (Update.Step from to)) < length (now buf) ⌝ }
+    ensures { λ r. ⌜ Wrote (text (Update.Step from to) ++ (10 ∷ [])) (now (buf .entry)) (now (buf .exit)) r ⌝ }
+{
+    let at = put_head(buf, b'E', from);
+    let end = put_number_at(buf, at, to);
+    buf[end] = b'\n';
+    end + 1
+}
+
+fn put_mark(buf: &mut [u8], kind: u8, state: usize) -> usize
+    requires { ⌜ length (head kind state ++ last none) < length (now buf) ⌝ }
+    ensures { λ r. ⌜ Wrote (head kind state ++ last none ++ (10 ∷ [])) (now (buf .entry)) (now (buf .exit)) r ⌝ }
+{
+    let at = put_head(buf, kind, state);
+    buf[at] = b'-';
+    let end = at + 1;
+    buf[end] = b'\n';
+    end + 1
+}
+
+// The kind and the first value, each with the space after it.
+fn put_head(buf: &mut [u8], kind: u8, from: usize) -> usize
+    requires { ⌜ length (head kind from) ≤ length (now buf) ⌝ }
+    ensures { λ r. ⌜ Wrote (head kind from) (now (buf .entry)) (now (buf .exit)) r ⌝ }
+{
+    buf[0] = kind;
+    buf[1] = b' ';
+    let at = put_number_at(buf, 2, from);
+    buf[at] = b' ';
+    at + 1
+}
+
+// The rest of the buffer is lent to the number's text. Returns the place after it.
+fn put_number_at(buf: &mut [u8], at: usize, value: usize) -> usize
+    requires { ⌜ at + length (decimal value) ≤ length (now buf) ⌝ }
+    ensures { λ r. ⌜ WroteAt at (decimal value) (now (buf .entry)) (now (buf .exit)) r ⌝ }
+{
+    at + put_number(&mut buf[at..], value)
+}
