@@ -11,7 +11,7 @@ use Rattle.gid.specs.Statuses.{statusUnknown, statusLive}
 use Rattle.tables.specs.Work.{marked}
 use Rattle.adjacency.specs.Walks.{Linked}
 use Rattle.search.specs.declared.spread.Mode.{Mode}
-use Rattle.search.specs.declared.spread.Mode.the-variants.{Live, Tree}
+use Rattle.search.specs.declared.spread.Mode.the-variants.{Live, Tree, Claimed}
 use Rattle.search.specs.declared.spread.Span.{Span}
 use Rattle.search.specs.Counting.{Kept}
 
@@ -33,10 +33,11 @@ pub record Walkable (a : Arcs) : Type 0 where
   pub nexts : a .m ≤ length (a .next)
   pub ends′ : a .m ≤ length (a .ends)
 
--- Whether the source y of the step i is allowed. Live: it is not live. Tree: it is unknown, and this very step is its successor.
+-- Whether the source y of the step i is allowed. Live: it is not live. Tree: it is unknown, and this very step is its successor. Claimed: its status is live.
 abbrev pub allowed : Mode → List ℕ → List ℕ → ℕ → ℕ → Bool
 allowed Live status successor y i = not (eqb (getD status y 0) statusLive)
 allowed Tree status successor y i = eqb (getD status y 0) statusUnknown && eqb (getD successor y 0) i
+allowed Claimed status successor y i = eqb (getD status y 0) statusLive
 
 -- The states that are reached backwards from u, by sources that pass a test.
 pub data Reached (a : Arcs) (ok : ℕ → ℕ → Bool) (u : ℕ) : ℕ → Type 0 where

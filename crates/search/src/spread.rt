@@ -18,6 +18,8 @@ pub enum Mode {
     Live,
     // The unknown ones whose successor is that very step.
     Tree,
+    // Those whose status is live.
+    Claimed,
 }
 
 // The states that were admitted: how many are queued, and the least and the greatest.
@@ -157,6 +159,7 @@ fn allowed(mode: Mode, p: usize, y: usize, status: &[u8], successor: &[u16]) -> 
             }
             wide(successor[y]) == p
         }
+        Mode::Claimed => status[y] == LIVE,
     }
 }
 

@@ -34,6 +34,12 @@ shared-slice-read-wide c = search needs
 wide-requires : tie.Need-wide-requires
 wide-requires c κs = search needs
 
+enum-told-3 : tie.Need-enum-told-3
+enum-told-3 c = search needs
+
+shared-slice-read-result-2 : tie.Need-shared-slice-read-result-2
+shared-slice-read-result-2 c = search needs
+
 returns-2 : tie.Need-returns-2
 returns-2 c =
     let a = c .before .before .before .before .before .args in
@@ -43,6 +49,11 @@ returns-3 : tie.Need-returns-3
 returns-3 c =
     let a = c .before .before .before .before .before .before .before .before .args in
     sym (ap (λ (m : Mode). allowed m (a .status .now) (a .successor .now) (a .y) (a .p)) (c .before .before .before .before .enum-told2 .given .1) ∙ rw (eq-eqb _ _ (c .before .before .if1 .left), c .wide .ensures))
+
+returns-4 : tie.Need-returns-4
+returns-4 c =
+    let a = c .before .before .before .before .before .args in
+    sym (ap (λ (m : Mode). allowed m (a .status .now) (a .successor .now) (a .y) (a .p)) (c .before .enum-told3 .given .1))
 
 pub allowed-spec : {M : Type 1} → statement M
 allowed-spec =
@@ -56,5 +67,8 @@ allowed-spec =
     mul-wide
     shared-slice-read-wide
     wide-requires
+    enum-told-3
+    shared-slice-read-result-2
     returns-2
-    returns-3)
+    returns-3
+    returns-4)

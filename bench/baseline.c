@@ -1,0 +1,267 @@
+// The proved engine's algorithm in plain C: the same searches over the same tables, behind the same call. With COUNT_MOVES it counts
+// list moves.
+#include "engines.h"
+
+#ifdef COUNT_MOVES
+#define baseline_update counted_update
+unsigned long list_moves;
+#define MOVE() (list_moves++)
+#else
+#define MOVE() ((void)0)
+#endif
+
+// How many successors are followed in search of an open state near by.
+enum { NEAR = 16 };
+
+typedef struct {
+    size_t n, limit, steps;
+    uint8_t *status, *marks;
+    uint16_t *from, *to, *successor, *news;
+    uint16_t *in_head, *out_head, *queue, *visited, *in_next, *out_next;
+} Engine;
+
+// The states that were admitted: how many are queued, and the least and the greatest.
+typedef struct {
+    size_t len, low, high;
+} Span;
+
+typedef enum { LIVE_SOURCES, TREE_SOURCES } Mode;
+
+enum { NAMED = 1, TERMINAL = 2, CLOSED = 4 };
+
+// ---- refusals
+
+static int refused_source(const Engine *e, size_t u)
+{
+    if (e->marks[u] & CLOSED) return 6;
+    if (e->status[u] == DEAD) return 8;
+    return 0;
+}
+
+static int refused_step(const Engine *e, size_t u, size_t v)
+{
+    if (u >= e->n || v >= e->n) return 5;
+    int number = refused_source(e, u);
+    if (number) return number;
+    return e->steps == e->limit ? 9 : 0;
+}
+
+static int refused_terminal(const Engine *e, size_t u)
+{
+    if (u >= e->n) return 5;
+    return refused_source(e, u);
+}
+
+static int refused_close(const Engine *e, size_t u)
+{
+    if (u >= e->n) return 5;
+    return e->marks[u] & CLOSED ? 7 : 0;
+}
+
+// ---- the lists of steps: entries are 1 + an index, 0 at the end; a walk only falls, so that it ends on any contents
+
+static void push(uint16_t *head, uint16_t *next, size_t v, size_t p)
+{
+    next[p] = head[v];
+    head[v] = (uint16_t)(p + 1);
+}
+
+static size_t first_of(const uint16_t *head, size_t v, size_t steps)
+{
+    size_t p = head[v];
+    return p <= steps ? p : 0;
+}
+
+static size_t after(const uint16_t *next, size_t p)
+{
+    MOVE();
+    size_t q = next[p - 1];
+    return q < p ? q : 0;
+}
+
+// ---- the closure along steps backwards
+
+static int allowed(const Engine *e, Mode mode, size_t y, size_t p)
+{
+    if (mode == LIVE_SOURCES) return e->status[y] != LIVE;
+    return e->status[y] == UNKNOWN && e->successor[y] == p;
+}
+
+static Span admit(const Engine *e, Span span, size_t y)
+{
+    e->visited[y] = 1;
+    e->queue[span.len] = (uint16_t)y;
+    return (Span){span.len + 1, y < span.low ? y : span.low, y > span.high ? y : span.high};
+}
+
+static Span offer_sources(const Engine *e, Mode mode, size_t x, Span span)
+{
+    for (size_t p = first_of(e->in_head, x, e->steps); p > 0; p = after(e->in_next, p)) {
+        size_t y = e->from[p - 1];
+        if (y < e->n && !e->visited[y] && allowed(e, mode, y, p - 1)) span = admit(e, span, y);
+    }
+    return span;
+}
+
+static Span spread(const Engine *e, Mode mode, size_t start)
+{
+    Span span = admit(e, (Span){0, start, start}, start);
+    for (size_t at = 0; at < span.len; at++) span = offer_sources(e, mode, e->queue[at], span);
+    return span;
+}
+
+// Gives the visited states the verdict, in rising order, and unmarks them.
+static size_t settle(const Engine *e, Span span, uint8_t verdict)
+{
+    size_t count = 0;
+    for (size_t s = span.low; s <= span.high; s++) {
+        if (!e->visited[s]) continue;
+        e->visited[s] = 0;
+        e->status[s] = verdict;
+        e->successor[s] = NO_SUCCESSOR;
+        e->news[count++] = (uint16_t)s;
+    }
+    return count;
+}
+
+// ---- an open state near by
+
+static int meets_open(const Engine *e, size_t s)
+{
+    for (size_t left = NEAR;; left--) {
+        if (s >= e->n) return 0;
+        if (e->status[s] == OPEN) return 1;
+        if (e->status[s] != UNKNOWN || left == 0) return 0;
+        size_t p = e->successor[s];
+        if (p >= e->steps) return 0;
+        MOVE();
+        s = e->to[p];
+    }
+}
+
+// 1 + the index of a step out of u from whose target successors soon lead to an open state, or 0.
+static size_t near_escape(const Engine *e, size_t u)
+{
+    for (size_t p = first_of(e->out_head, u, e->steps); p > 0; p = after(e->out_next, p))
+        if (meets_open(e, e->to[p - 1])) return p;
+    return 0;
+}
+
+// ---- which visited states keep a way to an open state
+
+static int leads_out(const Engine *e, size_t y)
+{
+    return y < e->n && !e->visited[y] && (e->status[y] == OPEN || e->status[y] == UNKNOWN);
+}
+
+static size_t way_out(const Engine *e, size_t x)
+{
+    for (size_t p = first_of(e->out_head, x, e->steps); p > 0; p = after(e->out_next, p))
+        if (leads_out(e, e->to[p - 1])) return p;
+    return 0;
+}
+
+static size_t release(const Engine *e, size_t x, size_t p, size_t released)
+{
+    e->successor[x] = (uint16_t)p;
+    e->visited[x] = 0;
+    e->queue[released] = (uint16_t)x;
+    return released + 1;
+}
+
+// Releases the queued states with a step out of the visited ones, and moves them to the queue's front.
+static size_t escapes(const Engine *e, size_t len)
+{
+    size_t released = 0;
+    for (size_t at = 0; at < len; at++) {
+        size_t x = e->queue[at], p = e->visited[x] ? way_out(e, x) : 0;
+        if (p > 0) released = release(e, x, p - 1, released);
+    }
+    return released;
+}
+
+// Releases the visited sources of released states.
+static size_t rescue(const Engine *e, size_t released)
+{
+    for (size_t at = 0; at < released; at++)
+        for (size_t p = first_of(e->in_head, e->queue[at], e->steps); p > 0; p = after(e->in_next, p)) {
+            size_t y = e->from[p - 1];
+            if (y < e->n && e->visited[y]) released = release(e, y, p - 1, released);
+        }
+    return released;
+}
+
+// ---- updates
+
+static void name(const Engine *e, size_t s)
+{
+    e->marks[s] |= NAMED;
+    if (e->status[s] == UNSEEN) e->status[s] = OPEN;
+}
+
+static size_t make_live(const Engine *e, size_t u)
+{
+    if (e->status[u] == LIVE) return 0;
+    return settle(e, spread(e, LIVE_SOURCES, u), LIVE);
+}
+
+static size_t find_dead(const Engine *e, size_t u)
+{
+    Span span = spread(e, TREE_SOURCES, u);
+    rescue(e, escapes(e, span.len));
+    return settle(e, span, DEAD);
+}
+
+static size_t step(Engine *e, size_t u, size_t v)
+{
+    size_t p = e->steps++;
+    e->from[p] = (uint16_t)u;
+    e->to[p] = (uint16_t)v;
+    push(e->out_head, e->out_next, u, p);
+    push(e->in_head, e->in_next, v, p);
+    name(e, u);
+    name(e, v);
+    return e->status[v] == LIVE ? make_live(e, u) : 0;
+}
+
+static size_t terminal(const Engine *e, size_t u)
+{
+    name(e, u);
+    e->marks[u] |= TERMINAL;
+    return make_live(e, u);
+}
+
+static size_t close_state(const Engine *e, size_t u)
+{
+    name(e, u);
+    e->marks[u] |= CLOSED;
+    if (e->status[u] == LIVE) return 0;
+    e->status[u] = UNKNOWN;
+    size_t p = near_escape(e, u);
+    if (p == 0) return find_dead(e, u);
+    e->successor[u] = (uint16_t)(p - 1);
+    return 0;
+}
+
+static uint32_t send(Engine *e, uint8_t kind, size_t first, size_t second)
+{
+    int number = kind == 'E' ? refused_step(e, first, second) : kind == 'T' ? refused_terminal(e, first) : refused_close(e, first);
+    if (number) return REFUSED + (uint32_t)number;
+    return (uint32_t)(kind == 'E' ? step(e, first, second) : kind == 'T' ? terminal(e, first) : close_state(e, first));
+}
+
+// Flattened into one function, in which the tables stay in registers: faster than with calls.
+__attribute__((flatten)) uint32_t baseline_update(PARAMETERS)
+{
+    if (kind != 'E' && kind != 'T' && kind != 'C') return REFUSED + 11;
+    if (n == 0 || n > MAX_STATES) return REFUSED + 1;
+    if (limit == 0 || limit > MAX_STEPS) return REFUSED + 2;
+    if (status_len < n || marks_len < n || successor_len < n || news_len < n) return REFUSED + 3;
+    if (in_head_len < n || out_head_len < n || queue_len < n || visited_len < n) return REFUSED + 3;
+    if (from_len < limit || to_len < limit || in_next_len < limit || out_next_len < limit) return REFUSED + 3;
+    if (*steps > limit) return REFUSED + 4;
+    Engine e = {n, limit, *steps, status, marks, from, to, successor, news, in_head, out_head, queue, visited, in_next, out_next};
+    uint32_t answer = send(&e, kind, first, second);
+    *steps = e.steps;
+    return answer;
+}

@@ -1,0 +1,194 @@
+-- The facts hold exactly where the tables fit; what the parts of the check answer, put together.
+-- Assumes nothing.
+use mathlib.Core.Path.{_≡_, refl, _∙_, ap}
+use mathlib.Core.Logic.{_↔_}
+use mathlib.Core.Bool.{Bool, true, false, false≢true}
+use mathlib.Core.List.{List}
+use mathlib.Core.Option.{some, none}
+use Prim.Native.Nat.{ℕ, _<_, _≤_}
+use native.Mathlib.Omega.{arith}
+use lib.ListN.{length, getD, replicate, length-replicate}
+use borrow.Author.Tests.{le-leb}
+use Rattle.tables.specs.declared.Graph.{Graph}
+use Rattle.tables.specs.declared.lengths.Lengths.{Lengths}
+use Rattle.tables.specs.Tables.{Tables, enough, needs}
+use Rattle.tables.specs.Work.{NoneVisited}
+use Rattle.tables.specs.Refused.{lentNumber}
+use Rattle.tables.specs.Marks.{hasTerminal, hasClosed}
+use Rattle.tables.specs.Fitting.{Fits}
+use Rattle.tables.proofs.Refusing.{lent-passes, lent-refuses}
+use Rattle.search.specs.Counting.{Kept}
+use Rattle.search.specs.Spreading.{arcs}
+use Rattle.search.proofs.Counting.{kept-none, kept-trans}
+use Rattle.engine.proofs.Promising.{room-of}
+use Rattle.audit.specs.declared.answer.Audit.the-variants.{Fits as Yes, Unfit as No, Refused}
+use Rattle.audit.specs.Facts.{All, stateFits, stepFits, TableFacts}
+use Rattle.audit.specs.Parts.{Below, ListFits, Answered, Claims, Long, Judged}
+use Rattle.audit.specs.Audited.{auditNeeds, refusalOf, Audited}
+use Rattle.audit.proofs.Reading.{StepFacts, decides-state, decides-step}
+use Rattle.audit.proofs.Canonical.{canonical-legal}
+use Rattle.audit.proofs.Founding.{historyOf, founded}
+use Rattle.audit.proofs.Meeting.{met}
+
+-- Tables fit exactly where the facts hold: "some legal history gives" them.
+pub facts-fit : (g : Graph) (t : Tables) → g .steps ≤ length (t .from) → g .steps ≤ length (t .to) → TableFacts (g .n) (g .steps) t ↔ Fits g t
+facts-fit g t a b = (
+  λ f. (historyOf g t, canonical-legal (g .n) (g .steps) (t .from) (t .to) (λ s. hasTerminal (getD (t .marks) s 0)) (λ s. hasClosed (getD (t .marks) s 0)), founded g t f a b),
+  λ q. met (q .2),
+)
+
+-- What the tests of states and steps leave to the later parts.
+pub none-visited : (n m : ℕ) (status marks from successor inHead outHead visited : List ℕ) → All n (stateFits m status marks from successor inHead outHead visited) → NoneVisited n visited
+none-visited n m status marks from successor inHead outHead visited a s h = decides-state m status marks from successor inHead outHead visited s .sound (a s h) .unvisited
+
+pub ends-below : (n m : ℕ) (status marks from to : List ℕ) → All m (λ p. stepFits n status marks (getD from p 0) (getD to p 0)) → Below n m from × Below n m to
+ends-below n m status marks from to a = (λ p h. fact p h .source, λ p h. fact p h .target)
+  where
+    fact : (p : ℕ) → p < m → StepFacts n status marks (getD from p 0) (getD to p 0)
+    fact p h = decides-step n status marks (getD from p 0) (getD to p 0) .sound (a p h)
+
+-- A no: some fact fails.
+pub denied : {n m : ℕ} {t : Tables} {queue visited : List ℕ} → (TableFacts n m t → ⊥) → Kept n (t .queue) queue → Kept n (t .visited) visited → Judged n m t false queue visited
+denied f q v = record { exact = (λ e. absurd (false≢true e), λ t. absurd (f t)); none = λ e. absurd (false≢true e); visits = v; queues = q }
+
+-- The last part decides where all others passed.
+pub judged :
+    {n m : ℕ} (t : Tables) {a b c d r : Bool} {queue₁ queue₂ queue visited : List ℕ} →
+    (a ≡ true) ↔ All n (stateFits m (t .status) (t .marks) (t .from) (t .successor) (t .inHead) (t .outHead) (t .visited)) → a ≡ true →
+    (b ≡ true) ↔ All m (λ p. stepFits n (t .status) (t .marks) (getD (t .from) p 0) (getD (t .to) p 0)) → b ≡ true →
+    ListFits n m (t .to) (t .inHead) (t .inNext) (t .queue) queue₁ c → c ≡ true →
+    ListFits n m (t .from) (t .outHead) (t .outNext) queue₁ queue₂ d → d ≡ true →
+    Answered n (Claims (arcs n m (t .from) (t .inHead) (t .inNext)) (t .status) (t .marks) (t .successor)) (t .visited) queue₂ visited queue r →
+    Judged n m t r queue visited
+judged t states sa steps sb into sc outOf sd claims =
+    record {
+      exact = (
+        λ e. record { states = states .0 sa; steps = steps .0 sb; into = into .exact .0 sc; outOf = outOf .exact .0 sd; lives = claims .exact .0 e .0; escapes = claims .exact .0 e .1 },
+        λ f. claims .exact .1 (f .lives, f .escapes),
+      );
+      none = λ e. claims .none;
+      visits = claims .visits;
+      queues = kept-trans (into .kept) (kept-trans (outOf .kept) (claims .queues));
+    }
+
+-- the tables with another news list
+abbrev withNews : Tables → List ℕ → Tables
+withNews t news =
+    record {
+      status = t .status;
+      marks = t .marks;
+      from = t .from;
+      to = t .to;
+      successor = t .successor;
+      news = news;
+      inHead = t .inHead;
+      outHead = t .outHead;
+      queue = t .queue;
+      visited = t .visited;
+      inNext = t .inNext;
+      outNext = t .outNext;
+    }
+
+-- the lengths of the tables, with one for the news list
+abbrev lengthsWith : Tables → ℕ → Lengths
+lengthsWith t news =
+    record {
+      status = length (t .status);
+      marks = length (t .marks);
+      successor = length (t .successor);
+      news = news;
+      «in_head» = length (t .inHead);
+      «out_head» = length (t .outHead);
+      queue = length (t .queue);
+      visited = length (t .visited);
+      from = length (t .from);
+      to = length (t .to);
+      «in_next» = length (t .inNext);
+      «out_next» = length (t .outNext);
+    }
+
+-- Where the news list is long enough, the lengths of the others decide.
+pub same-needs : (g : Graph) (t : Tables) (news : ℕ) → g .n ≤ news → enough (needs (g .n) (g .limit) (lengthsWith t news)) ≡ enough (auditNeeds g t)
+same-needs g t news h = rw (le-leb (g .n) news h)
+
+module _ (g : Graph) (t : Tables) where
+  module _ (lent : lentNumber g (enough (auditNeeds g t)) ≡ 0) where
+    pub long-enough : Long (g .n) (g .steps) t
+    long-enough =
+        let l : List ℕ = replicate (g .n) 0 in
+        let size : g .n ≤ length l = rw (length-replicate {A = ℕ} (g .n) 0) (omega arith) in
+        let r = room-of g (withNews t l) (ap (lentNumber g) (same-needs g t (length l) size) ∙ lent) in
+        record {
+          states = omega (arith, r .states);
+          steps = omega (arith, r .steps, r .bound);
+          status = r .status;
+          marks = r .marks;
+          from = omega (arith, r .steps, r .from);
+          to = omega (arith, r .steps, r .to);
+          successor = r .successor;
+          inHead = r .inHead;
+          outHead = r .outHead;
+          queue = r .queue;
+          visited = r .visited;
+          inNext = omega (arith, r .steps, r .inNext);
+          outNext = omega (arith, r .steps, r .outNext);
+        }
+
+    fits : TableFacts (g .n) (g .steps) t ↔ Fits g t
+    fits = facts-fit g t (long-enough .from) (long-enough .to)
+
+    none-refused : (k : ℕ) → refusalOf g t ≡ some k → ⊥
+    none-refused k e = let p = lent-passes g (enough (auditNeeds g t)) (t .marks) (t .status) lent in let z : _≡_ {A = ℕ} 0 1 = cc in omega arith
+
+    -- A yes,
+    pub says-yes : {queue visited : List ℕ} → Judged (g .n) (g .steps) t true queue visited → Audited g t Yes queue visited
+    says-yes j =
+        let f = fits .0 (j .exact .0 refl) in
+        record {
+          refused = λ k. (λ e. absurd (let z : _≡_ {A = ℕ} 0 1 = cc in omega arith), λ e. absurd (none-refused k e));
+          unchanged = λ k e. absurd (let z : _≡_ {A = ℕ} 0 1 = cc in omega arith);
+          yes = λ p. (λ e. f, λ q. refl);
+          no = λ p. (λ e. absurd (let z : _≡_ {A = ℕ} 0 1 = cc in omega arith), λ q. absurd (q f));
+          queue = j .queues;
+          visited = j .visits;
+          still = λ e h c.
+              record {
+                inRange = c .inRange;
+                marks = c .marks;
+                steps = c .steps;
+                from = c .from;
+                to = c .to;
+                status = c .status;
+                successor = c .successor;
+                into = c .into;
+                outOf = c .outOf;
+                unvisited = j .none refl;
+              };
+        }
+
+    -- a no,
+    pub says-no : {queue visited : List ℕ} → Judged (g .n) (g .steps) t false queue visited → Audited g t No queue visited
+    says-no j =
+        record {
+          refused = λ k. (λ e. absurd (let z : _≡_ {A = ℕ} 0 1 = cc in omega arith), λ e. absurd (none-refused k e));
+          unchanged = λ k e. absurd (let z : _≡_ {A = ℕ} 0 1 = cc in omega arith);
+          yes = λ p. (λ e. absurd (let z : _≡_ {A = ℕ} 0 1 = cc in omega arith), λ q. absurd (false≢true (j .exact .1 (fits .1 q))));
+          no = λ p. (λ e q. false≢true (j .exact .1 (fits .1 q)), λ q. refl);
+          queue = j .queues;
+          visited = j .visits;
+          still = λ e. absurd (let z : _≡_ {A = ℕ} 0 1 = cc in omega arith);
+        }
+
+  -- and a refusal.
+  pub says-refused : (k : ℕ) → lentNumber g (enough (auditNeeds g t)) ≡ k → (k ≡ 0 → ⊥) → Audited g t (Refused k) (t .queue) (t .visited)
+  says-refused k e n =
+      let r = lent-refuses g (enough (auditNeeds g t)) (t .marks) (t .status) k e n in
+      record {
+        refused = λ j. (λ q. let z : k ≡ j = cc in rw z at r, λ q. let z : k ≡ j = cc in rw z);
+        unchanged = λ j q. (refl, refl);
+        yes = λ p. absurd (let z : _≡_ {A = ℕ} 0 1 = cc in omega arith);
+        no = λ p. absurd (let z : _≡_ {A = ℕ} 0 1 = cc in omega arith);
+        queue = kept-none (g .n) (t .queue);
+        visited = kept-none (g .n) (t .visited);
+        still = λ q. absurd (let z : _≡_ {A = ℕ} 0 1 = cc in omega arith);
+      }

@@ -1,0 +1,210 @@
+-- Tables that some legal history gives have the facts.
+-- Assumes nothing.
+use mathlib.Core.Path.{_≡_, refl, sym, _∙_, subst}
+use mathlib.Core.Logic.{inl, inr}
+use mathlib.Core.Bool.{Bool, true, false, cond, false≢true}
+use mathlib.Core.List.{List}
+use Prim.Native.Nat.{ℕ, zero, suc, _+_, _<_, _≤_}
+use native.Mathlib.Omega.{arith}
+use native.Mathlib.Decide.{ℕ-discrete}
+use lib.ListN.{getD}
+use borrow.Author.Tests.{eq-eqb}
+use Rattle.gid.specs.declared.Update.{Update}
+use Rattle.gid.specs.declared.Update.the-variants.{Step, Terminal, Close}
+use Rattle.gid.specs.Updates.{Mentions}
+use Rattle.gid.specs.Histories.{History, Has, IsTerminal, IsClosed, IsNamed}
+use Rattle.gid.specs.Verdicts.{Reaches, here, along, Live}
+use Rattle.gid.specs.Statuses.{isNamed, isTerminal, isClosed, status, statusOpen, statusUnknown, statusLive}
+use Rattle.gid.specs.Successors.{Chain, ends as chain-ends, follows as chain-follows, Having}
+use Rattle.gid.proofs.Decide.{refutes}
+use Rattle.gid.proofs.Tests.{decides-named, decides-terminal, decides-closed}
+use Rattle.gid.proofs.Deadness.{live-terminal, live-source, dead-closed, dead-target, dead-not-live}
+use Rattle.gid.proofs.Statuses.{live-named, closed-named, Classified, as-live as is-live, as-dead as is-dead, as-unknown as is-unknown, as-open as is-open, as-unseen as is-unseen, classified, status-live, status-dead-by-reach}
+use Rattle.tables.specs.declared.Graph.{Graph}
+use Rattle.tables.specs.Tables.{Tables}
+use Rattle.tables.specs.Marks.{hasNamed, hasTerminal, hasClosed}
+use Rattle.tables.specs.Work.{lastBefore}
+use Rattle.tables.specs.Fitting.{marksOf, Consistent}
+use Rattle.tables.proofs.Listed.{step-listed, listed-step}
+use Rattle.adjacency.proofs.Walks.{linked, last-here, last-earlier}
+use Rattle.search.specs.declared.spread.Mode.the-variants.{Tree, Claimed}
+use Rattle.search.specs.Spreading.{arcs, allowed, start, back}
+use Rattle.engine.proofs.Listing.{closed-bit}
+use Rattle.audit.specs.Facts.{starts, startsAt, Backed, TableFacts}
+use Rattle.audit.proofs.Reading.{Suited, as-unseen, as-open, as-unknown, as-dead, as-live, StateFacts, decides-state, StepFacts, decides-step}
+
+-- The marks of a history as a byte: its bits, and the byte of each status.
+module _ (h : History) (s : ℕ) where
+  named-bit : hasNamed (marksOf h s) ≡ isNamed h s
+  unfolding marksOf
+  named-bit = at (isNamed h s) (isTerminal h s) (isClosed h s)
+    where
+      at : (a b c : Bool) → hasNamed (cond a 1 0 + cond b 2 0 + cond c 4 0) ≡ a
+      at true true true = refl
+      at true true false = refl
+      at true false true = refl
+      at true false false = refl
+      at false true true = refl
+      at false true false = refl
+      at false false true = refl
+      at false false false = refl
+
+  terminal-bit : hasTerminal (marksOf h s) ≡ isTerminal h s
+  unfolding marksOf
+  terminal-bit = at (isNamed h s) (isTerminal h s) (isClosed h s)
+    where
+      at : (a b c : Bool) → hasTerminal (cond a 1 0 + cond b 2 0 + cond c 4 0) ≡ b
+      at true true true = refl
+      at true true false = refl
+      at true false true = refl
+      at true false false = refl
+      at false true true = refl
+      at false true false = refl
+      at false false true = refl
+      at false false false = refl
+
+  marks-low : marksOf h s ≤ 7
+  unfolding marksOf
+  marks-low = at (isNamed h s) (isTerminal h s) (isClosed h s)
+    where
+      at : (a b c : Bool) → cond a 1 0 + cond b 2 0 + cond c 4 0 ≤ 7
+      at true true true = omega arith
+      at true true false = omega arith
+      at true false true = omega arith
+      at true false false = omega arith
+      at false true true = omega arith
+      at false true false = omega arith
+      at false false true = omega arith
+      at false false false = omega arith
+
+  marks-are : {a b c : Bool} → isNamed h s ≡ a → isTerminal h s ≡ b → isClosed h s ≡ c → marksOf h s ≡ cond a 1 0 + cond b 2 0 + cond c 4 0
+  unfolding marksOf
+  marks-are p q r = rw (p, q, r)
+
+  named : IsNamed h s → isNamed h s ≡ true
+  named = decides-named h s .complete
+
+  unlive : (Live h s → ⊥) → isTerminal h s ≡ false
+  unlive n = refutes (isTerminal h s) (decides-terminal h s) (λ t. n (live-terminal t))
+
+  shut : IsClosed h s → isClosed h s ≡ true
+  shut = decides-closed h s .complete
+
+  -- Each status has its byte of marks.
+  suited : Suited (status h s) (marksOf h s)
+  suited = at (classified h s)
+    where
+      at : {k : ℕ} → Classified h s k → Suited k (marksOf h s)
+      at (is-live e l) = as-live e marks-low (named-bit ∙ named (live-named l))
+      at (is-dead e d) = as-dead e (marks-are (named (closed-named (dead-closed d))) (unlive (dead-not-live d)) (shut (dead-closed d)))
+      at (is-unknown e c l d) = as-unknown e (marks-are (named (closed-named c)) (unlive l) (shut c))
+      at (is-open e n c l) = as-open e (marks-are (named n) (unlive l) (refutes (isClosed h s) (decides-closed h s) c))
+      at (is-unseen e n) =
+          as-unseen e
+          (marks-are (refutes (isNamed h s) (decides-named h s) n) (unlive (λ l. n (live-named l))) (refutes (isClosed h s) (decides-closed h s) (λ c. n (closed-named c))))
+
+-- a list with a step is not empty
+last-some : (ends : List ℕ) (m p : ℕ) → p < m → 0 < lastBefore ends m (getD ends p 0)
+last-some ends zero p h = absurd (omega arith)
+last-some ends (suc m) p h = at (ℕ-discrete (getD ends m 0) (getD ends p 0)) (ℕ-discrete p m) (last-some ends m p)
+  where
+    at : Dec (getD ends m 0 ≡ getD ends p 0) → Dec (p ≡ m) → (p < m → 0 < lastBefore ends m (getD ends p 0)) → 0 < lastBefore ends (suc m) (getD ends p 0)
+    at (yes e) z i = rw (last-here ends m (getD ends p 0) e) (omega arith)
+    at (no d) (yes z) i = absurd (d (rw z))
+    at (no d) (no z) i = rw (last-earlier ends m (getD ends p 0) d) (i (omega arith))
+
+module _ {h : History} {g : Graph} {t : Tables} (c : Consistent h g t) where
+  -- the marks that the tables have
+  named-mark : (s : ℕ) → s < g .n → IsNamed h s → hasNamed (getD (t .marks) s 0) ≡ true
+  named-mark s k q = rw (c .marks s k) (named-bit h s ∙ decides-named h s .complete q)
+
+  terminal-mark : (s : ℕ) → s < g .n → IsTerminal h s → hasTerminal (getD (t .marks) s 0) ≡ true
+  terminal-mark s k q = rw (c .marks s k) (terminal-bit h s ∙ decides-terminal h s .complete q)
+
+  closed-mark : (s : ℕ) → s < g .n → IsClosed h s → hasClosed (getD (t .marks) s 0) ≡ true
+  closed-mark s k q = rw (c .marks s k) (closed-bit h s ∙ decides-closed h s .complete q)
+
+  mark-named : (s : ℕ) → s < g .n → hasNamed (getD (t .marks) s 0) ≡ true → IsNamed h s
+  mark-named s k e = decides-named h s .sound (sym (named-bit h s) ∙ rw (c .marks s k) at e)
+
+  -- a state that is only named is an end of a step
+  head-some : (s : ℕ) → s < g .n → getD (t .marks) s 0 ≡ 1 → getD (t .inHead) s 0 ≡ 0 → getD (t .outHead) s 0 ≡ 0 → ⊥
+  head-some s k e i o = let q = mark-named s k (rw e) in met (q .0) (q .1) (q .2)
+    where
+      met : (x : Update) → Has h x → Mentions x s → ⊥
+      met (Step u v) q (inl z) =
+          let r = step-listed c u v q in
+          let w : getD (t .from) (r .0) 0 ≡ s = r .2 ∙ z in
+          let y : 0 < lastBefore (t .from) (g .steps) s = rw w at (last-some (t .from) (g .steps) (r .0) (r .1)) in
+          omega (arith, c .outOf .heads s k)
+      met (Step u v) q (inr z) =
+          let r = step-listed c u v q in
+          let w : getD (t .to) (r .0) 0 ≡ s = r .3 ∙ z in
+          let y : 0 < lastBefore (t .to) (g .steps) s = rw w at (last-some (t .to) (g .steps) (r .0) (r .1)) in
+          omega (arith, c .into .heads s k)
+      met (Terminal u) q z = false≢true (rw e at (terminal-mark s k (subst (IsTerminal h) z q)))
+      met (Close u) q z = false≢true (rw e at (closed-mark s k (subst (IsClosed h) z q)))
+
+  state : (s : ℕ) → s < g .n → StateFacts (g .steps) (t .status) (t .marks) (t .from) (t .successor) (t .inHead) (t .outHead) (t .visited) s
+  state s k =
+      record {
+        unvisited = c .unvisited s k;
+        suited = rw (c .status s k, c .marks s k) (suited h s);
+        named = head-some s k;
+        follows = (λ e. c .successor .listed s (k, e), λ n. c .successor .others s k n);
+      }
+
+  step : (p : ℕ) → p < g .steps → StepFacts (g .n) (t .status) (t .marks) (getD (t .from) p 0) (getD (t .to) p 0)
+  step p k =
+      let u = getD (t .from) p 0 in
+      let v = getD (t .to) p 0 in
+      let q = listed-step c p k in
+      let a : IsNamed h u = (Step u v, q, inl refl) in
+      let b : IsNamed h v = (Step u v, q, inr refl) in
+      let i = c .inRange u a in
+      let j = c .inRange v b in
+      record {
+        source = i;
+        target = j;
+        sourceNamed = named-mark u i a;
+        targetNamed = named-mark v j b;
+        lives = λ e. c .status u i ∙ status-live h u .1 (live-source q (status-live h v .0 (sym (c .status v j) ∙ e)));
+        deads = λ e. c .status v j ∙ status-dead-by-reach h v .1 (dead-target q (status-dead-by-reach h u .0 (sym (c .status u i) ∙ e)));
+      }
+
+  -- A live state is reached backwards from a terminal one, through live states.
+  live-backed : {s v : ℕ} → Reaches h s v → IsTerminal h v → s < g .n → Backed (g .n) (arcs (g .n) (g .steps) (t .from) (t .inHead) (t .inNext)) (allowed Claimed (t .status) (t .successor)) (startsAt statusLive (t .status) (t .marks)) s
+  unfolding starts
+  live-backed {s} here e k = (s, k, terminal-mark s k e, start refl)
+  live-backed {s} (along {v = w} q p) e k =
+      let r = step-listed c s w q in
+      let j = c .inRange w (Step s w, q, inr refl) in
+      let b = live-backed p e j in (
+        b .0,
+        b .1,
+        b .2,
+        back (b .3) (linked (c .into) w j (r .0) .1 (r .1, r .3)) (sym (r .2)) k
+            (eq-eqb (getD (t .status) s 0) statusLive (c .status s k ∙ status-live h s .1 (_, along q p, e))),
+      )
+
+  -- An unknown state is reached backwards from an open one, by successors.
+  chain-backed : {s k : ℕ} → Chain (Having (g .n) (λ r. getD (t .status) r 0) statusUnknown) (Having (g .n) (λ r. getD (t .status) r 0) statusOpen) (λ r. getD (t .to) (getD (t .successor) r 0) 0) s k → Backed (g .n) (arcs (g .n) (g .steps) (t .from) (t .inHead) (t .inNext)) (allowed Tree (t .status) (t .successor)) (startsAt statusUnknown (t .status) (t .marks)) s
+  unfolding starts
+  chain-backed {s} (chain-ends (k, e)) = (s, k, eq-eqb (getD (t .status) s 0) statusOpen e, start refl)
+  chain-backed {s} (chain-follows (k, e) q) =
+      let b = chain-backed q in
+      let l = c .successor .listed s (k, e) in
+      let p = getD (t .successor) s 0 in
+      let j = c .inRange (getD (t .to) p 0) (Step (getD (t .from) p 0) (getD (t .to) p 0), listed-step c p (l .0), inr refl) in
+      (b .0, b .1, b .2, back (b .3) (linked (c .into) (getD (t .to) p 0) j p .1 (l .0, refl)) (sym (l .1)) k (rw (eq-eqb (getD (t .status) s 0) statusUnknown e) (eq-eqb p p refl)))
+
+  pub met : TableFacts (g .n) (g .steps) t
+  met =
+      record {
+        states = λ s k. decides-state (g .steps) (t .status) (t .marks) (t .from) (t .successor) (t .inHead) (t .outHead) (t .visited) s .complete (state s k);
+        steps = λ p k. decides-step (g .n) (t .status) (t .marks) (getD (t .from) p 0) (getD (t .to) p 0) .complete (step p k);
+        into = c .into;
+        outOf = c .outOf;
+        lives = λ s k e. let l = status-live h s .0 (sym (c .status s k) ∙ e) in live-backed (l .1) (l .2) k;
+        escapes = λ s k e. chain-backed (c .successor .escapes s (k, e) .2);
+      }

@@ -1,0 +1,97 @@
+-- What each part of the table check does, on tables with any contents.
+-- Assumes nothing.
+use mathlib.Core.Path.{_≡_}
+use mathlib.Core.Logic.{_↔_}
+use mathlib.Core.Bool.{Bool, true, false}
+use mathlib.Core.List.{List}
+use Prim.Native.Nat.{ℕ, _+_, _<_, _≤_}
+use lib.ListN.{length, getD, set}
+use Rattle.gid.specs.Statuses.{statusUnknown, statusLive}
+use Rattle.tables.specs.Tables.{Tables}
+use Rattle.tables.specs.Work.{ListRule, NoneVisited, lastBefore, marked}
+use Rattle.search.specs.declared.spread.Mode.the-variants.{Tree, Claimed}
+use Rattle.search.specs.declared.spread.Span.{Span}
+use Rattle.search.specs.Counting.{Kept}
+use Rattle.search.specs.Spreading.{Arcs, allowed, Spread}
+use Rattle.audit.specs.Facts.{Backed, Backs, TableFacts}
+
+-- The first n entries are 0.
+pub record Zeroed (n : ℕ) (l l′ : List ℕ) : Type 0 where
+  pub zeros : (s : ℕ) → s < n → getD l′ s 0 ≡ 0
+  pub kept : Kept n l l′
+
+-- The ends of the first m steps are states.
+abbrev pub Below : ℕ → ℕ → List ℕ → Type 0
+Below n m ends = (p : ℕ) → p < m → getD ends p 0 < n
+
+-- The first n entries of two tables are equal.
+abbrev pub Same : ℕ → List ℕ → List ℕ → Type 0
+Same n a b = (v : ℕ) → v < n → getD a v 0 ≡ getD b v 0
+
+-- The next entry of the step p at v is compared with the last step met at v, which p then is.
+pub data NextFits (p v : ℕ) (next last last′ : List ℕ) (r : Bool) : Type 0 where
+  differs : r ≡ false → (getD next p 0 ≡ getD last v 0 → ⊥) → last′ ≡ last → NextFits p v next last last′ r
+  follows : r ≡ true → getD next p 0 ≡ getD last v 0 → last′ ≡ set last v (p + 1) → NextFits p v next last last′ r
+
+-- The half of the list rule that speaks of next entries.
+abbrev pub Nexts : ℕ → List ℕ → List ℕ → Type 0
+Nexts m ends next = (p : ℕ) → p < m → getD next p 0 ≡ lastBefore ends p (getD ends p 0)
+
+-- The table holds, for each state, the last of the first m steps with that end.
+abbrev pub Lasts : ℕ → ℕ → List ℕ → List ℕ → Type 0
+Lasts n m ends last = (v : ℕ) → v < n → getD last v 0 ≡ lastBefore ends m v
+
+pub record NextsFit (n m : ℕ) (ends next last last′ : List ℕ) (r : Bool) : Type 0 where
+  pub exact : (r ≡ true) ↔ Nexts m ends next
+  pub lasts : r ≡ true → Lasts n m ends last′
+  pub kept : Kept n last last′
+
+pub record ListFits (n m : ℕ) (ends head next last last′ : List ℕ) (r : Bool) : Type 0 where
+  pub exact : (r ≡ true) ↔ ListRule n m ends head next
+  pub kept : Kept n last last′
+
+-- A spread from u, where u is a start that is not visited.
+pub data Started (a : Arcs) (ok : ℕ → ℕ → Bool) (start : Bool) (u : ℕ) (visited queue visited′ queue′ : List ℕ) : Type 0 where
+  passed : (start ≡ true → marked visited u ≡ true) → visited′ ≡ visited → queue′ ≡ queue → Started a ok start u visited queue visited′ queue′
+  spreads : (r : Span) → start ≡ true → Spread a ok u visited queue visited′ queue′ r → Started a ok start u visited queue visited′ queue′
+
+-- Exactly what is reached from a start below k is visited.
+pub record Gathered (k : ℕ) (a : Arcs) (ok : ℕ → ℕ → Bool) (start : ℕ → Bool) (visited queue visited′ queue′ : List ℕ) : Type 0 where
+  pub exact : (w : ℕ) → w < a .n → (marked visited′ w ≡ true) ↔ Backed k a ok start w
+  pub visits : Kept (a .n) visited visited′
+  pub queues : Kept (a .n) queue queue′
+
+-- Whether a claim P holds. No state is left visited.
+pub record Answered (n : ℕ) (P : Type 0) (visited queue visited′ queue′ : List ℕ) (r : Bool) : Type 0 where
+  pub exact : (r ≡ true) ↔ P
+  pub none : NoneVisited n visited′
+  pub visits : Kept n visited visited′
+  pub queues : Kept n queue queue′
+
+-- What the statuses claim: that each live state is backed by a terminal one, and each unknown state by an open one.
+abbrev pub Claims : Arcs → (status marks successor : List ℕ) → Type 0
+Claims a status marks successor =
+    Backs a (allowed Claimed status successor) statusLive status marks × Backs a (allowed Tree status successor) statusUnknown status marks
+
+-- What the tests 1 to 4 leave.
+pub record Long (n m : ℕ) (t : Tables) : Type 0 where
+  pub states : n < 65536
+  pub steps : m < 65535
+  pub status : n ≤ length (t .status)
+  pub marks : n ≤ length (t .marks)
+  pub from : m ≤ length (t .from)
+  pub to : m ≤ length (t .to)
+  pub successor : n ≤ length (t .successor)
+  pub inHead : n ≤ length (t .inHead)
+  pub outHead : n ≤ length (t .outHead)
+  pub queue : n ≤ length (t .queue)
+  pub visited : n ≤ length (t .visited)
+  pub inNext : m ≤ length (t .inNext)
+  pub outNext : m ≤ length (t .outNext)
+
+-- Whether the facts hold. After a yes no state is marked visited.
+pub record Judged (n m : ℕ) (t : Tables) (r : Bool) (queue′ visited′ : List ℕ) : Type 0 where
+  pub exact : (r ≡ true) ↔ TableFacts n m t
+  pub none : r ≡ true → NoneVisited n visited′
+  pub visits : Kept n (t .visited) visited′
+  pub queues : Kept n (t .queue) queue′

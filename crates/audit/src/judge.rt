@@ -1,0 +1,60 @@
+// Whether tables that are long enough fit: states and steps by their entries, then the lists of steps, then what the statuses claim.
+ghost use Rattle.engine.specs.Done.{tablesOf};
+ghost use mathlib.Core.List.{List, []};
+ghost use Prim.Native.Nat.{ℕ};
+ghost use Rattle.audit.specs.Parts.{Long, Judged};
+use super::claims::claims_fit;
+use super::lists::list_fits;
+use super::states::states_fit;
+use super::steps::steps_fit;
+
+pub fn judge(
+    n: usize,
+    steps: usize,
+    status: &[u8],
+    marks: &[u8],
+    from: &[u16],
+    to: &[u16],
+    successor: &[u16],
+    in_head: &[u16],
+    out_head: &[u16],
+    queue: &mut [u16],
+    visited: &mut [u16],
+    in_next: &[u16],
+    out_next: &[u16],
+) -> bool
+    requires { ⌜ Long n steps (tablesOf (now status) (now marks) (now from) (now to) (now successor) [] (now «in_head») (now «out_head») (now queue) (now visited) (now «in_next») (now «out_next»)) ⌝ }
+    ensures { λ r. ⌜ ((news : List ℕ) → Judged n steps (tablesOf (now (status .entry)) (now (marks .entry)) (now (from .entry)) (now (to .entry)) (now (successor .entry)) news (now («in_head» .entry)) (now («out_head» .entry)) (now (queue .entry)) (now (visited .entry)) (now («in_next» .entry)) (now («out_next» .entry))) r (now (queue .exit)) (now (visited .exit))) ⌝ }
+{
+    if states_fit(
+        n,
+        steps,
+        status,
+        marks,
+        from,
+        successor,
+        in_head,
+        out_head,
+        visited,
+    ) {
+        if steps_fit(n, steps, status, marks, from, to) {
+            if list_fits(n, steps, to, in_head, in_next, queue) {
+                if list_fits(n, steps, from, out_head, out_next, queue) {
+                    return claims_fit(
+                        n,
+                        steps,
+                        status,
+                        marks,
+                        from,
+                        successor,
+                        in_head,
+                        in_next,
+                        queue,
+                        visited,
+                    );
+                }
+            }
+        }
+    }
+    false
+}

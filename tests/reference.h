@@ -1,0 +1,43 @@
+// The naive reference: what document 01 says of updates, worked out afresh from the accepted history. It knows nothing of the engine.
+#ifndef REFERENCE_H
+#define REFERENCE_H
+
+#include <stddef.h>
+#include <stdint.h>
+
+enum { UNSEEN = 0, OPEN = 1, UNKNOWN = 2, LIVE = 3, DEAD = 4 };
+enum { NAMED = 1, TERMINAL = 2, CLOSED = 4 };
+enum { MOST_STATES = 2048, MOST_STEPS = 8192, NO_SUCCESSOR = 65535 };
+
+// 'E' a step from first to second, 'T' a terminal mark on first, 'C' a close of first.
+typedef struct {
+    uint8_t kind;
+    size_t first, second;
+} Update;
+
+// The updates that a run over n states accepted, and how many of them are steps.
+typedef struct {
+    size_t n, limit, count, steps, room;
+    Update *accepted;
+} History;
+
+void history_start(History *h, size_t n, size_t limit);
+void history_add(History *h, Update u);
+void history_end(History *h);
+
+// The marks and the statuses of all n states. The second form takes time in proportion to states and updates.
+void reference_marks(const History *h, uint8_t *marks);
+void reference_statuses(const History *h, uint8_t *status);
+void reference_statuses_quick(const History *h, uint8_t *status);
+
+// Whether some legal continuation of at most `updates` updates makes s live.
+int reference_can_live(History *h, size_t s, int updates);
+
+// The states that became live or dead between two tables of statuses, in rising order; answers their number.
+size_t reference_news(size_t n, const uint8_t *before, const uint8_t *after, uint16_t *news);
+
+// The number of the first test that applies, or 0: 1 to 4 of what is lent, 5 to 9 of what is sent, read off tables of any contents.
+int reference_lent(size_t n, size_t limit, size_t steps, int long_enough);
+int reference_sent(size_t n, size_t limit, size_t steps, const uint8_t *marks, const uint8_t *status, Update u);
+
+#endif
