@@ -1,0 +1,186 @@
+-- Texts written one behind another at a place of a buffer, and the room that they take.
+-- Assumes nothing.
+use mathlib.Core.Path.{_≡_, refl, sym, _∙_, ap}
+use mathlib.Core.Bool.{Bool, true, false, cond}
+use mathlib.Core.List.{List, [], _∷_, _++_, append-assoc, append-nil}
+use Prim.Native.Nat.{ℕ, zero, suc, _+_, _-_, _*_, _≤_, _<_}
+use native.Mathlib.Omega.{arith}
+use native.Mathlib.Decide.{decLt}
+use native.Mathlib.Numerals.{add-one}
+use lib.Dec.{eqb}
+use mir.Val.{boolByte}
+use lib.ListN.{length, getD, take, drop, set, length-append, length-drop, length-take, drop-of-length-le, List·getD-eq-default}
+use lib.Seq.{take-suc, length-take-le, take-at, drop-at, drop-drop, drop-cons, set-at, take-all, getD-take}
+use Rattle.gid.specs.News.{below}
+use Rattle.record.specs.Text.{decimal, Wrote, WroteAt}
+use Rattle.record.proofs.Decimals.{five-digits}
+use Rattle.record.proofs.Writing.{wrote-then, wrote-at, wrote-length, lent-back}
+use Rattle.report.specs.declared.totals.Totals.{Totals}
+use Rattle.report.specs.Texts.{openWord, unknownWord, endLiveWord, endDeadWord, ending, row, newsText, verdictWord, having, totalsOf, totalsText}
+
+-- a text at a place is a text at the front, behind what stood there
+pub to-front : (at : ℕ) (t d e : List ℕ) (r : ℕ) → at ≤ length d → WroteAt at t d e r → Wrote (take at d ++ t) d e r
+to-front at t d e r h w =
+    let n : length (take at d ++ t) ≡ at + length t = length-append (take at d) t ∙ (rw (length-take-le at d h) refl) in
+    record {
+      bytes = w .bytes ∙ sym (append-assoc (take at d) t (drop (at + length t) d)) ∙ ap (λ (k : ℕ). take at d ++ t ++ drop k d) (sym n);
+      count = w .after ∙ sym n;
+    }
+
+pub from-front : (at : ℕ) (t d e : List ℕ) (r : ℕ) → at ≤ length d → Wrote (take at d ++ t) d e r → WroteAt at t d e r
+from-front at t d e r h w =
+    let n : length (take at d ++ t) ≡ at + length t = length-append (take at d) t ∙ (rw (length-take-le at d h) refl) in
+    record {
+      bytes = w .bytes ∙ ap (λ (k : ℕ). take at d ++ t ++ drop k d) n ∙ append-assoc (take at d) t (drop (at + length t) d);
+      after = w .count ∙ n;
+    }
+
+-- one text behind another
+pub placed-then : (at : ℕ) (t u d e f : List ℕ) (r k : ℕ) → WroteAt at t d e r → WroteAt r u e f k → at + length t + length u ≤ length d → WroteAt at (t ++ u) d f k
+placed-then at t u d e f r k w a h =
+    let p : at ≤ length d = omega arith in
+    let n : length (take at d ++ t) ≡ at + length t = length-append (take at d) t ∙ (rw (length-take-le at d p) refl) in
+    from-front at (t ++ u) d f k p
+    (rw (← append-assoc (take at d) t u) (wrote-at (take at d ++ t) u d e f r k (to-front at t d e r p w) a (omega arith)))
+
+-- one byte behind a text
+pub placed-byte : (at : ℕ) (t d e : List ℕ) (r b : ℕ) → WroteAt at t d e r → at + length t < length d → WroteAt at (t ++ (b ∷ [])) d (set e r b) (r + 1)
+placed-byte at t d e r b w h =
+    let p : at ≤ length d = omega arith in
+    let n : length (take at d ++ t) ≡ at + length t = length-append (take at d) t ∙ (rw (length-take-le at d p) refl) in
+    from-front at (t ++ (b ∷ [])) d (set e r b) (r + 1) p
+    (rw (← append-assoc (take at d) t (b ∷ [])) (wrote-then (take at d ++ t) d e r b (to-front at t d e r p w) (omega arith)))
+
+-- nothing written
+pub placed-none : (at : ℕ) (d : List ℕ) → WroteAt at [] d d at
+placed-none at d =
+    let z : at ≡ at + 0 = omega arith in
+    record { bytes = sym (take-drop at d) ∙ ap (λ (k : ℕ). take at d ++ drop k d) z; after = z }
+  where
+    take-drop : (n : ℕ) (l : List ℕ) → take n l ++ drop n l ≡ l
+    take-drop zero l = refl
+    take-drop (suc n) [] = refl
+    take-drop (suc n) (x ∷ l) = ap (λ (m : List ℕ). x ∷ m) (take-drop n l)
+
+pub ending-length : (word : List ℕ) (n : ℕ) → length (ending word n) ≡ length word + length (decimal n) + 1
+unfolding ending
+ending-length word n = rw (length-append (word ++ decimal n) (10 ∷ []), length-append word (decimal n)) refl
+
+pub ending-room : (word : List ℕ) (n : ℕ) → n < 100000 → length (ending word n) ≤ length word + 6
+ending-room word n h = omega (arith, ending-length word n, five-digits n h)
+
+pub row-length : (line : ℕ) (word : List ℕ) (n : ℕ) → length (row line word n) ≡ length (decimal line) + length (ending word n)
+unfolding row
+row-length line word n = length-append (decimal line) (ending word n)
+
+pub row-room : (line : ℕ) (word : List ℕ) (n : ℕ) → line < 100000 → n < 100000 → length (row line word n) ≤ length word + 11
+row-room line word n p q = omega (arith, row-length line word n, ending-room word n q, five-digits line p)
+
+pub none-below : (f : ℕ → ℕ) (k : ℕ) → having 0 f k ≡ 0
+unfolding below
+none-below f k = refl
+
+pub having-more : (n : ℕ) (f : ℕ → ℕ) (k : ℕ) → having (n + 1) f k ≡ having n f k + cond (eqb (f n) k) 1 0
+unfolding below
+having-more n f k = rw (add-one n, length-append (below n (λ s. eqb (f s) k)) (cond (eqb (f n) k) (n ∷ []) [])) (by (eqb (f n) k))
+  where
+    by : (b : Bool) → having n f k + length (cond b (n ∷ []) []) ≡ having n f k + cond b 1 0
+    by true = refl
+    by false = refl
+
+pub having-few : (n : ℕ) (f : ℕ → ℕ) (k : ℕ) → having n f k ≤ n
+unfolding below
+having-few zero f k = omega arith
+having-few (suc n) f k = rw (length-append (below n (λ s. eqb (f s) k)) (cond (eqb (f n) k) (n ∷ []) [])) (by (eqb (f n) k) (having-few n f k))
+  where
+    by : (b : Bool) → having n f k ≤ n → having n f k + length (cond b (n ∷ []) []) ≤ suc n
+    by true h = omega arith
+    by false h = omega arith
+
+-- the news, one state more
+pub news-more : (line : ℕ) (f : ℕ → ℕ) (l : List ℕ) (s : ℕ) → newsText line f (l ++ (s ∷ [])) ≡ newsText line f l ++ row line (verdictWord (f s)) s
+unfolding newsText
+news-more line f [] s = append-nil (row line (verdictWord (f s)) s)
+news-more line f (x ∷ l) s = rw (news-more line f l s) (sym (append-assoc (row line (verdictWord (f x)) x) (newsText line f l) (row line (verdictWord (f s)) s)))
+
+word-room : (b : Bool) → length {A = ℕ} (cond b (32 ∷ 108 ∷ 105 ∷ 118 ∷ 101 ∷ 32 ∷ []) (32 ∷ 100 ∷ 101 ∷ 97 ∷ 100 ∷ 32 ∷ [])) ≡ 6
+word-room true = refl
+word-room false = refl
+
+pub verdict-room : (line k s : ℕ) → line < 100000 → s < 100000 → length (row line (verdictWord k) s) ≤ 17
+verdict-room line k s p q = omega (arith, row-room line (verdictWord k) s p q, word-room (eqb k 3))
+
+pub news-room : (line : ℕ) (f : ℕ → ℕ) (l : List ℕ) → line < 100000 → ((i : ℕ) → getD l i 0 < 100000) → length (newsText line f l) ≤ 17 * length l
+unfolding newsText
+news-room line f [] p q = omega arith
+news-room line f (s ∷ l) p q =
+    rw (length-append (row line (verdictWord (f s)) s) (newsText line f l)) (omega (arith, verdict-room line (f s) s p (q 0), news-room line f l p (λ i. q (suc i))))
+
+-- one state more of the news, behind those before it
+pub news-then : (at line : ℕ) (f : ℕ → ℕ) (l : List ℕ) (i : ℕ) (d e g : List ℕ) (r k : ℕ) → i < length l → WroteAt at (newsText line f (take i l)) d e r → WroteAt r (row line (verdictWord (f (getD l i 0))) (getD l i 0)) e g k → at + length (newsText line f (take i l)) + 17 ≤ length d → line < 100000 → getD l i 0 < 100000 → WroteAt at (newsText line f (take (i + 1) l)) d g k
+news-then at line f l i d e g r k h w v p q z =
+    rw (add-one i, take-suc l i 0 h, news-more line f (take i l) (getD l i 0))
+    (placed-then at (newsText line f (take i l)) (row line (verdictWord (f (getD l i 0))) (getD l i 0)) d e g r k w v (omega (arith, verdict-room line (f (getD l i 0)) (getD l i 0) q z)))
+
+-- one state more is counted
+pub counted : (i : ℕ) (f : ℕ → ℕ) (k x y : ℕ) → x ≡ having i f k → y ≡ f i → x + boolByte (eqb y k) ≡ having (i + 1) f k
+counted i f k x y p q = rw (p, q, having-more i f k) (by (eqb (f i) k))
+  where
+    by : (b : Bool) → having i f k + boolByte b ≡ having i f k + cond b 1 0
+    by true = refl
+    by false = refl
+
+pub counted-fits : (i : ℕ) (f : ℕ → ℕ) (k x y : ℕ) → x ≡ having i f k → y ≡ f i → i < 2048 → x + boolByte (eqb y k) ≤ 2048
+counted-fits i f k x y p q h = omega (arith, counted i f k x y p q, having-few (i + 1) f k)
+
+pub news-few : (line : ℕ) (f : ℕ → ℕ) (l : List ℕ) (i : ℕ) → i ≤ length l → line < 100000 → ((j : ℕ) → getD l j 0 < 65536) → length (newsText line f (take i l)) ≤ 17 * i
+news-few line f l i h p q = omega (arith, news-room line f (take i l) p (λ j. by j (decLt j i)), length-take-le i l h)
+  where
+    by : (j : ℕ) → Dec (j < i) → getD (take i l) j 0 < 100000
+    by j (yes z) = rw (getD-take i l j 0 z) (omega (arith, q j))
+    by j (no z) = rw (List·getD-eq-default (take i l) 0 {n = j} (omega (arith, length-take-le i l h))) (omega arith)
+
+-- the four counts are at most 2,048
+pub record Small (t : Totals) : Type 0 where
+  pub opens : t .«open» ≤ 2048
+  pub unknowns : t .unknown ≤ 2048
+  pub lives : t .live ≤ 2048
+  pub deads : t .dead ≤ 2048
+
+pub totals-small : (f : ℕ → ℕ) (t : Totals) → t ≡ totalsOf f → Small t
+totals-small f t e =
+    rw e (record { opens = having-few 2048 f 1; unknowns = having-few 2048 f 2; lives = having-few 2048 f 3; deads = having-few 2048 f 4 })
+
+pub totals-placed : (at : ℕ) (t : Totals) → Small t → (d e₁ e₂ e₃ e₄ : List ℕ) (r₁ r₂ r₃ r₄ : ℕ) → at + 80 ≤ length d → WroteAt at (ending openWord (t .«open»)) d e₁ r₁ → WroteAt r₁ (ending unknownWord (t .unknown)) e₁ e₂ r₂ → WroteAt r₂ (ending endLiveWord (t .live)) e₂ e₃ r₃ → WroteAt r₃ (ending endDeadWord (t .dead)) e₃ e₄ r₄ → WroteAt at (totalsText t) d e₄ r₄
+unfolding totalsText
+totals-placed at t s d e₁ e₂ e₃ e₄ r₁ r₂ r₃ r₄ h p q u v =
+    let a = ending openWord (t .«open») in
+    let b = ending unknownWord (t .unknown) in
+    let c = ending endLiveWord (t .live) in
+    let z = ending endDeadWord (t .dead) in
+    let i = ending-room openWord (t .«open») (omega (arith, s .opens)) in
+    let j = ending-room unknownWord (t .unknown) (omega (arith, s .unknowns)) in
+    let k = ending-room endLiveWord (t .live) (omega (arith, s .lives)) in
+    let l = ending-room endDeadWord (t .dead) (omega (arith, s .deads)) in
+    let x = length-append a b in
+    let y = length-append (a ++ b) c in
+    placed-then at (a ++ b ++ c) z d e₃ e₄ r₃ r₄
+    (placed-then at (a ++ b) c d e₂ e₃ r₂ r₃ (placed-then at a b d e₁ e₂ r₁ r₂ p q (omega arith)) u (omega arith))
+    v (omega arith)
+
+pub totals-room : (f : ℕ → ℕ) → length (totalsText (totalsOf f)) ≤ 80
+unfolding totalsText
+totals-room f =
+    let a = ending openWord (having 2048 f 1) in
+    let b = ending unknownWord (having 2048 f 2) in
+    let c = ending endLiveWord (having 2048 f 3) in
+    let z = ending endDeadWord (having 2048 f 4) in
+    let i = ending-room openWord (having 2048 f 1) (omega (arith, having-few 2048 f 1)) in
+    let j = ending-room unknownWord (having 2048 f 2) (omega (arith, having-few 2048 f 2)) in
+    let k = ending-room endLiveWord (having 2048 f 3) (omega (arith, having-few 2048 f 3)) in
+    let l = ending-room endDeadWord (having 2048 f 4) (omega (arith, having-few 2048 f 4)) in
+    omega (arith, length-append (a ++ b ++ c) z, length-append (a ++ b) c, length-append a b)
+
+-- one text behind another, by where the second ends
+pub placed-on : {at : ℕ} {t u d e f : List ℕ} {r k : ℕ} → WroteAt at t d e r → WroteAt r u e f k → k ≤ length d → WroteAt at (t ++ u) d f k
+placed-on {at} {t} {u} {d} {e} {f} {r} {k} w v h = placed-then at t u d e f r k w v (omega (arith, w .after, v .after))

@@ -1,0 +1,84 @@
+-- `steps_size` meets its contract.
+-- Assumes nothing.
+use Rattle.writer.proofs.Bytes.{steps-none, steps-size, line-bound}
+use Rattle.writer.specs.Order.{stepLines, bytesOf}
+use Rattle.gid.specs.declared.Update.the-variants.{Step}
+use lib.ListN.{length, getD}
+use Prim.Native.Nat.{_≤_, _*_, _-_}
+use borrow.Author.Needs.{needs}
+use native.Mathlib.Omega.{arith}
+use mathlib.Core.Path.{_≡_, sym, _∙_, ap}
+use Rattle.writer.proofs.sizes.steps_size.Statement.{statement}
+use Rattle.writer.proofs.sizes.steps_size.Tie as tie
+
+abbrev Inv-loop : tie.InvT-loop
+Inv-loop m from to size₀ p₀ size p = (p ≤ m) × (size ≡ length (bytesOf (stepLines p from to))) × (size ≤ 14 * p)
+
+abbrev μ-loop : tie.MeasureT-loop
+μ-loop m from to size₀ p₀ size p = m - p
+
+loop-holds : tie.Need-loop-holds Inv-loop μ-loop
+loop-holds c = (omega arith, ap length (sym (steps-none (c .before .before .args .from .now) (c .before .before .args .to .now))), omega arith)
+
+mul-step-size : tie.Need-mul-step-size Inv-loop μ-loop
+mul-step-size c = omega arith
+
+shared-slice-read-step-size : tie.Need-shared-slice-read-step-size Inv-loop μ-loop
+shared-slice-read-step-size c = omega arith
+
+mul-step-size-2 : tie.Need-mul-step-size-2 Inv-loop μ-loop
+mul-step-size-2 c = omega arith
+
+shared-slice-read-step-size-2 : tie.Need-shared-slice-read-step-size-2 Inv-loop μ-loop
+shared-slice-read-step-size-2 c = omega arith
+
+step-size-requires : tie.Need-step-size-requires Inv-loop μ-loop
+step-size-requires c κs = search needs
+
+add-size : tie.Need-add-size Inv-loop μ-loop
+add-size c =
+    let a = c .before .before .before .before .before .before .before .args in
+    let i = c .before .before .before .before .loop .p in
+    let x = c .before .before .shared-slice-known3 .given i in
+    let y = c .before .shared-slice-known4 .given i in
+    let b = line-bound (Step (getD (a .from .now) i 0) (getD (a .to .now) i 0)) (omega arith, omega arith) in
+    omega (arith, c .step-size .ensures)
+
+add-p : tie.Need-add-p Inv-loop μ-loop
+add-p c = omega arith
+
+loop-less : tie.Need-loop-less Inv-loop μ-loop
+loop-less c = omega arith
+
+loop-again : tie.Need-loop-again Inv-loop μ-loop
+loop-again c =
+    let a = c .before .before .before .before .before .before .before .args in
+    let i = c .before .before .before .before .loop .p in
+    let x = c .before .before .shared-slice-known3 .given i in
+    let y = c .before .shared-slice-known4 .given i in
+    let b = line-bound (Step (getD (a .from .now) i 0) (getD (a .to .now) i 0)) (omega arith, omega arith) in
+    (omega arith, omega (arith, c .step-size .ensures, steps-size i (a .from .now) (a .to .now)), omega (arith, c .step-size .ensures))
+
+returns : tie.Need-returns Inv-loop μ-loop
+returns c =
+    let loop = c .before .loop in
+    let q : loop .p ≡ c .before .before .before .before .args .m = omega arith in
+    (loop .inv .1 ∙ (rw q), omega arith)
+
+pub steps-size-spec : {M : Type 1} → statement M
+steps-size-spec =
+    tie.close
+    (tie.spec
+    Inv-loop
+    μ-loop
+    loop-holds
+    mul-step-size
+    shared-slice-read-step-size
+    mul-step-size-2
+    shared-slice-read-step-size-2
+    step-size-requires
+    add-size
+    add-p
+    loop-less
+    loop-again
+    returns)

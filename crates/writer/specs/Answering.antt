@@ -1,0 +1,52 @@
+-- What the writer answers: "It tests 1 to 4, then 13", and then "returns the place after the last byte, and leaves all other bytes".
+-- Assumes nothing.
+use mathlib.Core.Bool.{Bool, _||_}
+use mathlib.Core.List.{List, [], _∷_, _++_}
+use mathlib.Core.Option.{Option, some, none}
+use Prim.Native.Nat.{ℕ, _+_, _-_}
+use lib.Dec.{ltb}
+use lib.ListN.{length, take, drop}
+use Rattle.gid.specs.Refusals.{Rule, first, lent}
+use Rattle.tables.specs.declared.Graph.{Graph}
+use Rattle.tables.specs.Tables.{Needed, enough}
+use Rattle.tables.specs.Refused.{given}
+use Rattle.writer.specs.declared.Written.{Written}
+use Rattle.writer.specs.declared.Written.the-variants.{End, Refused}
+use Rattle.writer.specs.Order.{recordOf}
+
+-- "Test 3 covers the tables that the call in hand is lent": the marks and the step list.
+abbrev pub writerNeeds : Graph → ℕ → ℕ → ℕ → List Needed
+writerNeeds g marks from to =
+    record { have = marks; need = g .n } ∷ record { have = from; need = g .limit } ∷ record { have = to; need = g .limit } ∷ []
+
+-- "13: the writer's buffer is too short from its starting place, or that place is past its end."
+abbrev pub short : List ℕ → ℕ → ℕ → Bool
+short buf at size = ltb (length buf) at || ltb (length buf - at) size
+
+module _ (g : Graph) (marks from to : List ℕ) where
+  abbrev pub theRecord : List ℕ
+  theRecord = recordOf (g .n) (g .steps) marks from to
+
+  abbrev pub allLong : Bool
+  allLong = enough (writerNeeds g (length marks) (length from) (length to))
+
+  module _ (buf : List ℕ) (at : ℕ) where
+    -- The numbers 1 to 4 and 13, by rising number.
+    abbrev pub writeRules : List Rule
+    writeRules = lent (given g allLong [] []) ++ (record { applies = short buf at (length theRecord); number = 13 } ∷ [])
+
+    abbrev pub orEnd : Option ℕ → Written
+    orEnd none = End (at + length theRecord)
+    orEnd (some k) = Refused k
+
+    -- The answer.
+    unfoldable pub written : Written
+    written = orEnd (first writeRules)
+
+    abbrev pub orFilled : Option ℕ → List ℕ
+    orFilled none = take at buf ++ (theRecord ++ drop (at + length theRecord) buf)
+    orFilled (some k) = buf
+
+    -- The buffer after the call: what stood before the place, the record, and what stood behind it; as it was where the call is refused.
+    unfoldable pub bufferAfter : List ℕ
+    bufferAfter = orFilled (first writeRules)

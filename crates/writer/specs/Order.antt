@@ -1,0 +1,51 @@
+-- The record of some tables: "names line, T lines by rising state, steps in list order, C lines by rising state, each line ended by a newline". It "uses only the marks 2 and 4 and the listed steps, on tables that do not fit too".
+-- Assumes nothing.
+use mathlib.Core.Bool.{Bool}
+use mathlib.Core.List.{List, [], _∷_, _++_, map}
+use Prim.Native.Nat.{ℕ, zero, suc}
+use lib.ListN.{getD}
+use Rattle.gid.specs.declared.Update.{Update}
+use Rattle.gid.specs.declared.Update.the-variants.{Step, Terminal, Close}
+use Rattle.gid.specs.News.{below}
+use Rattle.tables.specs.Marks.{hasTerminal, hasClosed}
+use Rattle.record.specs.Text.{names, text}
+use Rattle.writer.specs.declared.marking.Mark.{Mark}
+use Rattle.writer.specs.declared.marking.Mark.the-variants.{Terminal as ForTerminal, Close as ForClose}
+
+-- Whether a byte of the marks has the mark: the bit 2, or the bit 4.
+abbrev pub hasMark : Mark → ℕ → Bool
+hasMark ForTerminal b = hasTerminal b
+hasMark ForClose b = hasClosed b
+
+-- The update that puts the mark on a state.
+abbrev pub marking : Mark → ℕ → Update
+marking ForTerminal s = Terminal s
+marking ForClose s = Close s
+
+-- The states below n that have the mark, "by rising state".
+unfoldable pub markedLines : Mark → ℕ → List ℕ → List Update
+markedLines k n marks = map (marking k) (below n (λ s. hasMark k (getD marks s 0)))
+
+-- The first m listed steps, "in list order".
+unfoldable pub stepLines : ℕ → List ℕ → List ℕ → List Update
+stepLines zero from to = []
+stepLines (suc p) from to = stepLines p from to ++ (Step (getD from p 0) (getD to p 0) ∷ [])
+
+-- The updates of the record of n states and m steps.
+unfoldable pub writtenUpdates : ℕ → ℕ → List ℕ → List ℕ → List ℕ → List Update
+writtenUpdates n m marks from to = markedLines ForTerminal n marks ++ (stepLines m from to ++ markedLines ForClose n marks)
+
+-- "each line ended by a newline"
+abbrev pub lineBytes : Update → List ℕ
+lineBytes x = text x ++ (10 ∷ [])
+
+unfoldable pub bytesOf : List Update → List ℕ
+bytesOf [] = []
+bytesOf (x ∷ l) = lineBytes x ++ bytesOf l
+
+abbrev pub namesBytes : List ℕ
+namesBytes = names ++ (10 ∷ [])
+
+-- The record's bytes.
+unfoldable pub recordOf : ℕ → ℕ → List ℕ → List ℕ → List ℕ → List ℕ
+recordOf n m marks from to = namesBytes ++ bytesOf (writtenUpdates n m marks from to)

@@ -1,0 +1,101 @@
+// The bytes of a record, line by line: each line's writer is lent the rest of the buffer. Each call returns the place after what it wrote.
+ghost use mathlib.Core.Path.{_≡_};
+ghost use mathlib.Core.List.{List, [], _∷_};
+ghost use Prim.Native.Nat.{ℕ, _≤_, _<_, _+_};
+ghost use lib.ListN.{length};
+ghost use Rattle.gid.specs.declared.Update.{Update};
+ghost use Rattle.record.specs.Text.{WroteAt};
+ghost use Rattle.writer.specs.Order.{hasMark, marking, markedLines, stepLines, lineBytes, bytesOf, namesBytes, recordOf};
+ghost use Rattle.writer.specs.Sizing.{markLine};
+use crate::marking::Mark;
+use crate::marking::has;
+use crate::marking::update_of;
+use gid::Update;
+use record::put_bytes;
+use record::put_update;
+
+fn put_names(buf: &mut [u8], at: usize) -> usize
+    requires { ⌜ at + length namesBytes ≤ length (now buf) ⌝ }
+    ensures { λ r. ⌜ WroteAt at namesBytes (now (buf .entry)) (now (buf .exit)) r ⌝ }
+{
+    at + put_bytes(&mut buf[at..], b"kind from to\n")
+}
+
+fn put_line(buf: &mut [u8], at: usize, update: Update) -> usize
+    requires { ⌜ at + length (lineBytes update) ≤ length (now buf) ⌝ }
+    ensures { λ r. ⌜ WroteAt at (lineBytes update) (now (buf .entry)) (now (buf .exit)) r ⌝ }
+{
+    at + put_update(&mut buf[at..], update)
+}
+
+// A state's line, where it has one.
+fn put_marked(buf: &mut [u8], at: usize, mark: Mark, byte: u8, state: usize) -> usize
+    requires { ⌜ at + length (bytesOf (markLine mark byte state)) ≤ length (now buf) ⌝ }
+    ensures { λ r. ⌜ WroteAt at (bytesOf (markLine mark byte state)) (now (buf .entry)) (now (buf .exit)) r ⌝ }
+{
+    if has(mark, byte) {
+        return put_line(buf, at, update_of(mark, state));
+    }
+    at
+}
+
+// "by rising state"
+fn put_marks(buf: &mut [u8], at: usize, mark: Mark, n: usize, marks: &[u8]) -> usize
+    requires { ⌜ (n ≤ length (now marks)) × (at + length (bytesOf (markedLines mark n (now marks))) ≤ length (now buf)) ⌝ }
+    ensures { λ r. ⌜ WroteAt at (bytesOf (markedLines mark n (now (marks .entry)))) (now (buf .entry)) (now (buf .exit)) r ⌝ }
+{
+    let mut next = at;
+    let mut s = 0;
+    while s < n {
+        next = put_marked(buf, next, mark, marks[s], s);
+        s += 1;
+    }
+    next
+}
+
+fn put_step(buf: &mut [u8], at: usize, from: u16, to: u16) -> usize
+    requires { ⌜ at + length (lineBytes (Update.Step from to)) ≤ length (now buf) ⌝ }
+    ensures { λ r. ⌜ WroteAt at (lineBytes (Update.Step from to)) (now (buf .entry)) (now (buf .exit)) r ⌝ }
+{
+    put_line(
+        buf,
+        at,
+        Update::Step {
+            from: from as usize,
+            to: to as usize,
+        },
+    )
+}
+
+// "steps in list order"
+fn put_steps(buf: &mut [u8], at: usize, m: usize, from: &[u16], to: &[u16]) -> usize
+    requires { ⌜ (m ≤ length (now from)) × (m ≤ length (now to)) × (at + length (bytesOf (stepLines m (now from) (now to))) ≤ length (now buf)) ⌝ }
+    ensures { λ r. ⌜ WroteAt at (bytesOf (stepLines m (now (from .entry)) (now (to .entry)))) (now (buf .entry)) (now (buf .exit)) r ⌝ }
+{
+    let mut next = at;
+    let mut p = 0;
+    while p < m {
+        next = put_step(buf, next, from[p], to[p]);
+        p += 1;
+    }
+    next
+}
+
+// "names line, T lines by rising state, steps in list order, C lines by rising state"
+pub fn put_record(
+    buf: &mut [u8],
+    at: usize,
+    n: usize,
+    m: usize,
+    marks: &[u8],
+    from: &[u16],
+    to: &[u16],
+) -> usize
+    requires { ⌜ (n ≤ length (now marks)) × (m ≤ length (now from)) × (m ≤ length (now to)) × (at + length (recordOf n m (now marks) (now from) (now to)) ≤ length (now buf)) ⌝ }
+    ensures { λ r. ⌜ WroteAt at (recordOf n m (now (marks .entry)) (now (from .entry)) (now (to .entry))) (now (buf .entry)) (now (buf .exit)) r ⌝ }
+{
+    let terminals = put_names(buf, at);
+    let steps = put_marks(buf, terminals, Mark::Terminal, n, marks);
+    let closes = put_steps(buf, steps, m, from, to);
+    put_marks(buf, closes, Mark::Close, n, marks)
+}
