@@ -12,9 +12,9 @@ use Rattle.tables.specs.Fitting.{Consistent}
 use Rattle.engine.specs.Runs.{Checked}
 use Rattle.audit.specs.declared.answer.Audit.{Audit}
 use Rattle.audit.specs.declared.answer.Audit.the-variants.{Fits as Yes, Unfit as No, Refused}
-use Rattle.audit.specs.Audited.{refusalOf, written, Audited}
+use Rattle.audit.specs.Audited.{refusalOf, afterCheck, Audited}
 
-pub checked : {g : Graph} {t : Tables} {answer : Audit} {queue visited : List ℕ} → Audited g t answer queue visited → Checked g t (written t queue visited)
+pub checked : {g : Graph} {t : Tables} {answer : Audit} {queue visited : List ℕ} → Audited g t answer queue visited → Checked g t (afterCheck t queue visited)
 checked {g} {t} {answer} {queue} {visited} a =
     record {
       status = refl;
@@ -27,7 +27,7 @@ checked {g} {t} {answer} {queue} {visited} a =
       fits = λ h l c. by-answer answer refl h l c;
     }
   where
-    by-answer : (x : Audit) → answer ≡ x → (h : History) → Legal h → Consistent h g t → Consistent h g (written t queue visited)
+    by-answer : (x : Audit) → answer ≡ x → (h : History) → Legal h → Consistent h g t → Consistent h g (afterCheck t queue visited)
     by-answer Yes e h l c = a .still e h c
     by-answer No e h l c = absurd (by-refusal (refusalOf g t) refl)
       where

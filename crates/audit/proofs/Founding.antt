@@ -2,7 +2,7 @@
 -- Assumes nothing.
 use mathlib.Core.Path.{_≡_, refl, sym, _∙_}
 use mathlib.Core.Logic.{inl, inr}
-use mathlib.Core.Bool.{Bool, true, false, cond, _&&_, false≢true}
+use mathlib.Core.Bool.{Bool, true, false, cond, false≢true}
 use mathlib.Core.List.{List}
 use Prim.Native.Nat.{ℕ, zero, suc, _+_, _*_, _/_, _%_, _<_, _≤_}
 use native.Mathlib.Omega.{arith}
@@ -33,7 +33,7 @@ use Rattle.adjacency.proofs.Walks.{linked, last-none, last-earlier}
 use Rattle.search.specs.declared.spread.Mode.the-variants.{Tree, Claimed}
 use Rattle.search.specs.Spreading.{Arcs, arcs, allowed, Reached, start, back}
 use Rattle.audit.specs.Facts.{starts, startsAt, TableFacts}
-use Rattle.audit.proofs.Reading.{Suited, as-unseen, as-open, as-unknown, as-dead, as-live, suited-low, suited-terminal, suited-closed, decides-same, StateFacts, decides-state, StepFacts, decides-step}
+use Rattle.audit.proofs.Reading.{Suited, as-unseen, as-open, as-unknown, as-dead, as-live, suited-low, suited-terminal, suited-closed, decides-same, both-true, StateFacts, decides-state, StepFacts, decides-step}
 use Rattle.audit.proofs.Gathering.{reached-range}
 use Rattle.audit.proofs.Canonical.{canonical, canonical-terminal, canonical-closed, canonical-step, terminal-canonical, closed-canonical, step-canonical, canonical-sources, canonical-targets}
 
@@ -231,15 +231,11 @@ module _ (g : Graph) (t : Tables) (f : TableFacts (g .n) (g .steps) t) where
       (λ s u. let b = f .escapes s (u .0) (u .1) in chain (b .1) (from-open (b .0) (b .2)) (b .3))
       (λ s h n. state s h .follows .1 n)
     where
-      split : (a b : Bool) → a && b ≡ true → (a ≡ true) × (b ≡ true)
-      split true b e = (refl, e)
-      split false b e = absurd (false≢true e)
-
       chain : {u w : ℕ} → u < g .n → getD (t .status) u 0 ≡ statusOpen → Reached (intoOf g t) (allowed Tree (t .status) (t .successor)) u w → (k : ℕ) × Chain (Having (g .n) (λ s. getD (t .status) s 0) statusUnknown) (Having (g .n) (λ s. getD (t .status) s 0) statusOpen) (λ s. getD (t .to) (getD (t .successor) s 0) 0) w k
       chain {w = w} k e (start z) = (0, chain-ends {s = w} (rw z (k, e)))
       chain k e (back {v = v} {i = i} {s = w} r l z b o) =
           let c = chain k e r in
-          let y = split (eqb (getD (t .status) w 0) statusUnknown) (eqb (getD (t .successor) w 0) i) o in
+          let y = both-true (eqb (getD (t .status) w 0) statusUnknown) (eqb (getD (t .successor) w 0) i) o in
           let next : getD (t .to) (getD (t .successor) w 0) 0 ≡ v = rw (eqb-true (getD (t .successor) w 0) i (y .1)) (search-step k r l z .1) in
           (suc (c .0), chain-follows {k = c .0} (b, eqb-true (getD (t .status) w 0) statusUnknown (y .0)) (rw next (c .1)))
 

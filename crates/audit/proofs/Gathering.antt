@@ -15,10 +15,7 @@ use Rattle.search.specs.Spreading.{Arcs, Reached, start, back}
 use Rattle.search.proofs.Counting.{kept-none, kept-trans}
 use Rattle.audit.specs.Facts.{All, Backed, Backs, startsAt, seen}
 use Rattle.audit.specs.Parts.{Zeroed, Started, passed, spreads, Gathered, Answered}
-
-both : (x y : Bool) → x && y ≡ true → y ≡ true
-both true y e = e
-both false y e = absurd (false≢true e)
+use Rattle.audit.proofs.Reading.{both-true}
 
 module _ {a : Arcs} {ok : ℕ → ℕ → Bool} where
   pub reached-range : {u w : ℕ} → u < a .n → Reached a ok u w → w < a .n
@@ -32,7 +29,7 @@ module _ {a : Arcs} {ok : ℕ → ℕ → Bool} where
   -- what is reached by states not visited yet is reached
   reached-loosen : (visited : List ℕ) {u w : ℕ} → Reached a (λ y i. not (marked visited y) && ok y i) u w → Reached a ok u w
   reached-loosen visited (start e) = start e
-  reached-loosen visited (back {i = i} {s = s} r l e b o) = back (reached-loosen visited r) l e b (both (not (marked visited s)) (ok s i) o)
+  reached-loosen visited (back {i = i} {s = s} r l e b o) = back (reached-loosen visited r) l e b (both-true (not (marked visited s)) (ok s i) o .1)
 
 module _ {a : Arcs} {ok : ℕ → ℕ → Bool} (starting : ℕ → Bool) {v₀ q₀ : List ℕ} where
   pub gathered-first : NoneVisited (a .n) v₀ → Gathered 0 a ok starting v₀ q₀ v₀ q₀

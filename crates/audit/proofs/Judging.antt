@@ -20,6 +20,7 @@ use Rattle.tables.proofs.Refusing.{lent-passes, lent-refuses}
 use Rattle.search.specs.Counting.{Kept}
 use Rattle.search.specs.Spreading.{arcs}
 use Rattle.search.proofs.Counting.{kept-none, kept-trans}
+use Rattle.engine.specs.Done.{tablesOf}
 use Rattle.engine.proofs.Promising.{room-of}
 use Rattle.audit.specs.declared.answer.Audit.the-variants.{Fits as Yes, Unfit as No, Refused}
 use Rattle.audit.specs.Facts.{All, stateFits, stepFits, TableFacts}
@@ -74,20 +75,7 @@ judged t states sa steps sb into sc outOf sd claims =
 -- the tables with another news list
 abbrev withNews : Tables → List ℕ → Tables
 withNews t news =
-    record {
-      status = t .status;
-      marks = t .marks;
-      from = t .from;
-      to = t .to;
-      successor = t .successor;
-      news = news;
-      inHead = t .inHead;
-      outHead = t .outHead;
-      queue = t .queue;
-      visited = t .visited;
-      inNext = t .inNext;
-      outNext = t .outNext;
-    }
+    tablesOf (t .status) (t .marks) (t .from) (t .to) (t .successor) news (t .inHead) (t .outHead) (t .queue) (t .visited) (t .inNext) (t .outNext)
 
 -- the lengths of the tables, with one for the news list
 abbrev lengthsWith : Tables → ℕ → Lengths

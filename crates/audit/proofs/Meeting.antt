@@ -35,47 +35,19 @@ use Rattle.audit.proofs.Reading.{Suited, as-unseen, as-open, as-unknown
 
 -- The marks of a history as a byte: its bits, and the byte of each status.
 module _ (h : History) (s : ℕ) where
-  named-bit : hasNamed (marksOf h s) ≡ isNamed h s
+  bits : (hasNamed (marksOf h s) ≡ isNamed h s) × (hasTerminal (marksOf h s) ≡ isTerminal h s) × (marksOf h s ≤ 7)
   unfolding marksOf
-  named-bit = at (isNamed h s) (isTerminal h s) (isClosed h s)
+  bits = at (isNamed h s) (isTerminal h s) (isClosed h s)
     where
-      at : (a b c : Bool) → hasNamed (cond a 1 0 + cond b 2 0 + cond c 4 0) ≡ a
-      at true true true = refl
-      at true true false = refl
-      at true false true = refl
-      at true false false = refl
-      at false true true = refl
-      at false true false = refl
-      at false false true = refl
-      at false false false = refl
-
-  terminal-bit : hasTerminal (marksOf h s) ≡ isTerminal h s
-  unfolding marksOf
-  terminal-bit = at (isNamed h s) (isTerminal h s) (isClosed h s)
-    where
-      at : (a b c : Bool) → hasTerminal (cond a 1 0 + cond b 2 0 + cond c 4 0) ≡ b
-      at true true true = refl
-      at true true false = refl
-      at true false true = refl
-      at true false false = refl
-      at false true true = refl
-      at false true false = refl
-      at false false true = refl
-      at false false false = refl
-
-  marks-low : marksOf h s ≤ 7
-  unfolding marksOf
-  marks-low = at (isNamed h s) (isTerminal h s) (isClosed h s)
-    where
-      at : (a b c : Bool) → cond a 1 0 + cond b 2 0 + cond c 4 0 ≤ 7
-      at true true true = omega arith
-      at true true false = omega arith
-      at true false true = omega arith
-      at true false false = omega arith
-      at false true true = omega arith
-      at false true false = omega arith
-      at false false true = omega arith
-      at false false false = omega arith
+      at : (a b c : Bool) → (hasNamed (cond a 1 0 + cond b 2 0 + cond c 4 0) ≡ a) × (hasTerminal (cond a 1 0 + cond b 2 0 + cond c 4 0) ≡ b) × (cond a 1 0 + cond b 2 0 + cond c 4 0 ≤ 7)
+      at true true true = (refl, refl, omega arith)
+      at true true false = (refl, refl, omega arith)
+      at true false true = (refl, refl, omega arith)
+      at true false false = (refl, refl, omega arith)
+      at false true true = (refl, refl, omega arith)
+      at false true false = (refl, refl, omega arith)
+      at false false true = (refl, refl, omega arith)
+      at false false false = (refl, refl, omega arith)
 
   marks-are : {a b c : Bool} → isNamed h s ≡ a → isTerminal h s ≡ b → isClosed h s ≡ c → marksOf h s ≡ cond a 1 0 + cond b 2 0 + cond c 4 0
   unfolding marksOf
@@ -95,7 +67,7 @@ module _ (h : History) (s : ℕ) where
   suited = at (classified h s)
     where
       at : {k : ℕ} → Classified h s k → Suited k (marksOf h s)
-      at (is-live e l) = as-live e marks-low (named-bit ∙ named (live-named l))
+      at (is-live e l) = as-live e (bits .2) (bits .0 ∙ named (live-named l))
       at (is-dead e d) = as-dead e (marks-are (named (closed-named (dead-closed d))) (unlive (dead-not-live d)) (shut (dead-closed d)))
       at (is-unknown e c l d) = as-unknown e (marks-are (named (closed-named c)) (unlive l) (shut c))
       at (is-open e n c l) = as-open e (marks-are (named n) (unlive l) (refutes (isClosed h s) (decides-closed h s) c))
@@ -116,16 +88,16 @@ last-some ends (suc m) p h = at (ℕ-discrete (getD ends m 0) (getD ends p 0)) (
 module _ {h : History} {g : Graph} {t : Tables} (c : Consistent h g t) where
   -- the marks that the tables have
   named-mark : (s : ℕ) → s < g .n → IsNamed h s → hasNamed (getD (t .marks) s 0) ≡ true
-  named-mark s k q = rw (c .marks s k) (named-bit h s ∙ decides-named h s .complete q)
+  named-mark s k q = rw (c .marks s k) (bits h s .0 ∙ decides-named h s .complete q)
 
   terminal-mark : (s : ℕ) → s < g .n → IsTerminal h s → hasTerminal (getD (t .marks) s 0) ≡ true
-  terminal-mark s k q = rw (c .marks s k) (terminal-bit h s ∙ decides-terminal h s .complete q)
+  terminal-mark s k q = rw (c .marks s k) (bits h s .1 ∙ decides-terminal h s .complete q)
 
   closed-mark : (s : ℕ) → s < g .n → IsClosed h s → hasClosed (getD (t .marks) s 0) ≡ true
   closed-mark s k q = rw (c .marks s k) (closed-bit h s ∙ decides-closed h s .complete q)
 
   mark-named : (s : ℕ) → s < g .n → hasNamed (getD (t .marks) s 0) ≡ true → IsNamed h s
-  mark-named s k e = decides-named h s .sound (sym (named-bit h s) ∙ rw (c .marks s k) at e)
+  mark-named s k e = decides-named h s .sound (sym (bits h s .0) ∙ rw (c .marks s k) at e)
 
   -- a state that is only named is an end of a step
   head-some : (s : ℕ) → s < g .n → getD (t .marks) s 0 ≡ 1 → getD (t .inHead) s 0 ≡ 0 → getD (t .outHead) s 0 ≡ 0 → ⊥

@@ -61,6 +61,9 @@ chosen false d e f =
 pub decides-same : (b : Bool) → Decides b (b ≡ true)
 decides-same b = record { sound = λ e. e; complete = λ e. e }
 
+pub both-true : (a b : Bool) → a && b ≡ true → (a ≡ true) × (b ≡ true)
+both-true a b = decides-and a b (decides-same a) (decides-same b) .sound
+
 decides-le : (a b : ℕ) → Decides (leb a b) (a ≤ b)
 decides-le a b = record { sound = leb-true a b; complete = le-leb a b }
 

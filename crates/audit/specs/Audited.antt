@@ -13,6 +13,7 @@ use Rattle.tables.specs.Tables.{Tables, Needed, enough, lengths, workNeeds}
 use Rattle.tables.specs.Refused.{given}
 use Rattle.tables.specs.Fitting.{Consistent, Fits}
 use Rattle.search.specs.Counting.{Kept}
+use Rattle.engine.specs.Done.{tablesOf}
 use Rattle.audit.specs.declared.answer.Audit.{Audit}
 use Rattle.audit.specs.declared.answer.Audit.the-variants.{Fits as Yes, Unfit as No, Refused}
 
@@ -30,22 +31,9 @@ abbrev pub refusalOf : Graph → Tables → Option ℕ
 refusalOf g t = first (lent (given g (enough (auditNeeds g t)) (t .marks) (t .status)))
 
 -- The tables after a check that left these in the queue and in the visited marks.
-abbrev pub written : Tables → List ℕ → List ℕ → Tables
-written t queue visited =
-    record {
-      status = t .status;
-      marks = t .marks;
-      from = t .from;
-      to = t .to;
-      successor = t .successor;
-      news = t .news;
-      inHead = t .inHead;
-      outHead = t .outHead;
-      queue = queue;
-      visited = visited;
-      inNext = t .inNext;
-      outNext = t .outNext;
-    }
+abbrev pub afterCheck : Tables → List ℕ → List ℕ → Tables
+afterCheck t queue visited =
+    tablesOf (t .status) (t .marks) (t .from) (t .to) (t .successor) (t .news) (t .inHead) (t .outHead) queue visited (t .inNext) (t .outNext)
 
 pub record Audited (g : Graph) (t : Tables) (answer : Audit) (queue′ visited′ : List ℕ) : Type 0 where
   -- Refused exactly by the tests 1 to 4, and then "nothing lent changes".
@@ -57,4 +45,4 @@ pub record Audited (g : Graph) (t : Tables) (answer : Audit) (queue′ visited�
   -- The work tables that it may write, below n alone; "after a yes" they "still fit", for each history that gave them.
   pub queue : Kept (g .n) (t .queue) queue′
   pub visited : Kept (g .n) (t .visited) visited′
-  pub still : answer ≡ Yes → (h : History) → Consistent h g t → Consistent h g (written t queue′ visited′)
+  pub still : answer ≡ Yes → (h : History) → Consistent h g t → Consistent h g (afterCheck t queue′ visited′)

@@ -2,9 +2,9 @@
 ghost use mathlib.Core.Path.{_≡_};
 ghost use mathlib.Core.Logic.{_↔_};
 ghost use mathlib.Core.Bool.{true};
-ghost use Prim.Native.Nat.{ℕ, _≤_, _<_};
-ghost use lib.ListN.{length, getD};
-ghost use Rattle.tables.specs.Work.{NoneVisited, marked};
+ghost use Prim.Native.Nat.{_≤_, _<_};
+ghost use lib.ListN.{length};
+ghost use Rattle.tables.specs.Work.{NoneVisited};
 ghost use Rattle.search.specs.Spreading.{arcs, Walkable, allowed, fresh};
 ghost use Rattle.audit.specs.Facts.{All, starts, startsAt, seen, Backs};
 ghost use Rattle.audit.specs.Parts.{Answered, Claims, Gathered, Started};
@@ -69,7 +69,7 @@ pub fn claims_fit(
 }
 
 // Visits all that the mode allows from the starts of a verdict, and says whether each state with that verdict is visited. It leaves no
-// state visited.
+// state visited. A state is queued once, and then its steps are looked at: O(n + steps) for all starts together.
 fn claimed(
     mode: Mode,
     verdict: u8,

@@ -1,5 +1,4 @@
 // The table check: whether stored tables can be trusted.
-ghost use mathlib.Core.Path.{_≡_};
 ghost use mathlib.Core.List.{List};
 ghost use Prim.Native.Nat.{ℕ};
 ghost use Rattle.engine.specs.Done.{tablesOf};
@@ -17,8 +16,8 @@ pub use answer::Audit;
 use tables::Graph;
 use tables::Lengths;
 
-// Tests 1 to 4, and then says whether the tables fit. It writes the queue and the visited marks alone, below n, and after a yes no state is
-// marked visited.
+// Tests 1 to 4, and then says whether the tables fit, in time O(n + steps). It writes the queue and the visited marks alone, below n, and
+// after a yes no state is marked visited. The news list is not lent: the promise holds with any.
 pub fn audit(
     graph: Graph,
     status: &[u8],

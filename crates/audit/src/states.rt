@@ -1,9 +1,9 @@
 // What can be said of a state by its own entries.
 ghost use mathlib.Core.Path.{_≡_};
 ghost use mathlib.Core.Logic.{_↔_};
-ghost use mathlib.Core.Bool.{true, not, _&&_};
+ghost use mathlib.Core.Bool.{true};
 ghost use Prim.Native.Nat.{_≤_, _<_};
-ghost use lib.ListN.{length, getD};
+ghost use lib.ListN.{length};
 ghost use Rattle.audit.specs.Facts.{All, suits, mentioned, successorFits, stateFits};
 use search::visits::is_visited;
 use tables::DEAD;

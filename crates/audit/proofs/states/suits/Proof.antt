@@ -1,5 +1,6 @@
 -- `suits` computes the test of its name, status by status.
 -- Assumes nothing.
+use native.Mathlib.Omega.{arith}
 use borrow.Author.Tests.{eq-eqb, ne-eqb, le-leb, lt-leb}
 use Rattle.audit.specs.Facts.{suits}
 use Rattle.audit.proofs.states.suits.Statement.{statement}
@@ -19,19 +20,36 @@ returns-3 c = simp (ne-eqb _ _ (c .before .before .if1 .left), ne-eqb _ _ (c .be
 
 returns-4 : tie.Need-returns-4
 unfolding suits
-returns-4 c = simp (ne-eqb _ _ (c .before .before .before .if1 .left), ne-eqb _ _ (c .before .before .if2 .left), ne-eqb _ _ (c .before .if3 .left), eq-eqb _ _ (c .if4 .taken))
+returns-4 c =
+    let atIf1 = c .before .before .before in
+    simp (ne-eqb _ _ (atIf1 .if1 .left), ne-eqb _ _ (c .before .before .if2 .left), ne-eqb _ _ (c .before .if3 .left), eq-eqb _ _ (c .if4 .taken))
 
 returns-5 : tie.Need-returns-5
 unfolding suits
-returns-5 c = simp (ne-eqb _ _ (c .before .before .before .before .before .if1 .left), ne-eqb _ _ (c .before .before .before .before .if2 .left), ne-eqb _ _ (c .before .before .before .if3 .left), ne-eqb _ _ (c .before .before .if4 .left), eq-eqb _ _ (c .before .if5 .taken), lt-leb _ _ (c .if6 .taken))
+returns-5 c =
+    let atIf3 = c .before .before .before in
+    let atIf2 = atIf3 .before in
+    let atIf1 = atIf2 .before in
+    let atStart = atIf1 .before in
+    let high = lt-leb (atStart .args .mark) 7 (omega (arith, c .if6 .taken)) in
+    simp (ne-eqb _ _ (atIf1 .if1 .left), ne-eqb _ _ (atIf2 .if2 .left), ne-eqb _ _ (atIf3 .if3 .left), ne-eqb _ _ (c .before .before .if4 .left), eq-eqb _ _ (c .before .if5 .taken), high)
 
 returns-6 : tie.Need-returns-6
 unfolding suits
-returns-6 c = simp (ne-eqb _ _ (c .before .before .before .before .before .if1 .left), ne-eqb _ _ (c .before .before .before .before .if2 .left), ne-eqb _ _ (c .before .before .before .if3 .left), ne-eqb _ _ (c .before .before .if4 .left), eq-eqb _ _ (c .before .if5 .taken), le-leb _ _ (c .if6 .left))
+returns-6 c =
+    let atIf3 = c .before .before .before in
+    let atIf2 = atIf3 .before in
+    let atIf1 = atIf2 .before in
+    let atStart = atIf1 .before in
+    let low = le-leb (atStart .args .mark) 7 (omega (arith, c .if6 .left)) in
+    simp (ne-eqb _ _ (atIf1 .if1 .left), ne-eqb _ _ (atIf2 .if2 .left), ne-eqb _ _ (atIf3 .if3 .left), ne-eqb _ _ (c .before .before .if4 .left), eq-eqb _ _ (c .before .if5 .taken), low)
 
 returns-7 : tie.Need-returns-7
 unfolding suits
-returns-7 c = simp (ne-eqb _ _ (c .before .before .before .before .if1 .left), ne-eqb _ _ (c .before .before .before .if2 .left), ne-eqb _ _ (c .before .before .if3 .left), ne-eqb _ _ (c .before .if4 .left), ne-eqb _ _ (c .if5 .left))
+returns-7 c =
+    let atIf2 = c .before .before .before in
+    let atIf1 = atIf2 .before in
+    simp (ne-eqb _ _ (atIf1 .if1 .left), ne-eqb _ _ (atIf2 .if2 .left), ne-eqb _ _ (c .before .before .if3 .left), ne-eqb _ _ (c .before .if4 .left), ne-eqb _ _ (c .if5 .left))
 
 pub suits-spec : {M : Type 1} → statement M
 suits-spec =
