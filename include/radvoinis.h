@@ -40,6 +40,23 @@ uint32_t radvoinis_state_status(size_t n, size_t limit, size_t steps, const uint
 /* The length of the news part: count, or 0 where count is above the list's length. */
 size_t radvoinis_news_len(uint16_t *news, size_t news_len, size_t count);
 
+/* The table check: 1 where the tables fit (some legal history gives them, and the work tables fit), 0 where they do not; or
+   RADVOINIS_REFUSED plus the number of the refusal (1 to 4), and changes nothing. It writes queue and visited alone, below n;
+   after a 1 no state is marked visited. */
+uint32_t radvoinis_audit(size_t n, size_t limit, size_t steps,
+                         const uint8_t *status, size_t status_len, const uint8_t *marks, size_t marks_len,
+                         const uint16_t *from, size_t from_len, const uint16_t *to, size_t to_len,
+                         const uint16_t *successor, size_t successor_len,
+                         const uint16_t *in_head, size_t in_head_len, const uint16_t *out_head, size_t out_head_len,
+                         uint16_t *queue, size_t queue_len, uint16_t *visited, size_t visited_len,
+                         const uint16_t *in_next, size_t in_next_len, const uint16_t *out_next, size_t out_next_len);
+
+/* The record writer: fills buf from the index *at on. Answers 0 and brings *at to the index after the last byte; or
+   RADVOINIS_REFUSED plus the number of the refusal (1 to 4, 13), and changes nothing. */
+uint32_t radvoinis_write(size_t n, size_t limit, size_t steps, const uint8_t *marks, size_t marks_len,
+                         const uint16_t *from, size_t from_len, const uint16_t *to, size_t to_len,
+                         uint8_t *buf, size_t buf_len, size_t *at);
+
 #ifdef __cplusplus
 }
 #endif

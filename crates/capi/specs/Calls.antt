@@ -2,6 +2,7 @@
 -- Assumes nothing.
 use mathlib.Core.Path.{_≡_}
 use mathlib.Core.Bool.{cond}
+use mathlib.Core.List.{List}
 use Prim.Native.Nat.{ℕ, _+_}
 use lib.Dec.{eqb}
 use Rattle.gid.specs.declared.Update.the-variants.{Step, Terminal, Close}
@@ -12,6 +13,11 @@ use Rattle.tables.specs.Tables.{Tables}
 use Rattle.engine.specs.declared.Answer.{Answer}
 use Rattle.engine.specs.declared.Answer.the-variants.{Accepted, Refused}
 use Rattle.engine.specs.Promise.{Promise}
+use Rattle.audit.specs.declared.answer.Audit.{Audit}
+use Rattle.audit.specs.declared.answer.Audit.the-variants.{Fits, Unfit, Refused as NotAudited}
+use Rattle.audit.specs.Audited.{Audited}
+use Rattle.writer.specs.declared.Written.{Written}
+use Rattle.writer.specs.declared.Written.the-variants.{End, Refused as NotWritten}
 use Rattle.capi.specs.declared.Sent.{Sent}
 use Rattle.capi.specs.declared.Sent.the-variants.{Update as Says, Malformed}
 
@@ -34,3 +40,24 @@ pub data Called (n limit m : ℕ) : Sent → Tables → ℕ → Tables → ℕ �
   answered :
       {x : Rattle.gid.specs.declared.Update.Update} {t t′ : Tables} {g′ : Graph} {a : Answer} {m′ r : ℕ} → Promise (record { n = n; limit = limit; steps = m }) x t g′ a t′ → m′ ≡ g′ .steps → r ≡ answerCode a →
       Called n limit m (Says x) t m′ t′ r
+
+-- The table check: 1 for a yes, 0 for a no, or 65,536 plus the number of its refusal.
+abbrev pub auditCode : Audit → ℕ
+auditCode Fits = 1
+auditCode Unfit = 0
+auditCode (NotAudited k) = 65536 + k
+
+-- A call of the table check keeps the check's promise.
+pub record Checked (g : Graph) (t : Tables) (r : ℕ) (queue′ visited′ : List ℕ) : Type 0 where
+  pub answer : Audit
+  pub audited : Audited g t answer queue′ visited′
+  pub code : r ≡ auditCode answer
+
+-- The writer: 0, or 65,536 plus the number of its refusal; and the place after the call, as it was where it is refused.
+abbrev pub writeCode : Written → ℕ
+writeCode (End e) = 0
+writeCode (NotWritten k) = 65536 + k
+
+abbrev pub placeAfter : Written → ℕ → ℕ
+placeAfter (End e) at = e
+placeAfter (NotWritten k) at = at

@@ -1,17 +1,21 @@
 // The engine's calls for C and Rust: thin exports with the same numbers. include/radvoinis.h declares them.
 ghost use mathlib.Core.Path.{_≡_};
-ghost use Prim.Native.Nat.{_+_};
+ghost use mathlib.Core.List.{List};
+ghost use Prim.Native.Nat.{ℕ, _+_};
 ghost use mathlib.Core.Bool.{cond};
 ghost use lib.Dec.{leb};
 ghost use lib.ListN.{length};
 ghost use Rattle.tables.specs.Refused.{statusAnswer};
 ghost use Rattle.engine.specs.Done.{tablesOf};
-ghost use Rattle.capi.specs.Calls.{sentBy, Called, statusCode};
+ghost use Rattle.writer.specs.Answering.{written, bufferAfter};
+ghost use Rattle.capi.specs.Calls.{sentBy, Called, statusCode, Checked, writeCode, placeAfter};
+use audit::Audit;
 use engine::Answer;
 use engine::Engine;
 use gid::Update;
 use tables::Graph;
 use tables::Status;
+use writer::Written;
 
 // What a refusal adds to its number, so that it differs from every number of news and from every status.
 const REFUSED: u32 = 65536;
@@ -124,4 +128,71 @@ pub extern "C" fn radvoinis_news_len(news: &mut [u16], count: usize) -> usize
 {
     let part = engine::news_part(news, count);
     part.len()
+}
+
+// The table check. Answers 1 where the tables fit and 0 where they do not, or 65,536 plus the number of a refusal. The queue and the visited marks alone are written, below n.
+#[no_mangle]
+pub extern "C" fn radvoinis_audit(
+    n: usize,
+    limit: usize,
+    steps: usize,
+    status: &[u8],
+    marks: &[u8],
+    from: &[u16],
+    to: &[u16],
+    successor: &[u16],
+    in_head: &[u16],
+    out_head: &[u16],
+    queue: &mut [u16],
+    visited: &mut [u16],
+    in_next: &[u16],
+    out_next: &[u16],
+) -> u32
+    ensures { λ r. ⌜ ((news : List ℕ) → Checked (record { n = n; limit = limit; steps = steps }) (tablesOf (now (status .entry)) (now (marks .entry)) (now (from .entry)) (now (to .entry)) (now (successor .entry)) news (now («in_head» .entry)) (now («out_head» .entry)) (now (queue .entry)) (now (visited .entry)) (now («in_next» .entry)) (now («out_next» .entry))) r (now (queue .exit)) (now (visited .exit))) ⌝ }
+{
+    let graph = Graph { n, limit, steps };
+    match audit::audit(
+        graph,
+        status,
+        marks,
+        from,
+        to,
+        successor,
+        in_head,
+        out_head,
+        queue,
+        visited,
+        in_next,
+        out_next,
+    ) {
+        Audit::Fits => 1,
+        Audit::Unfit => 0,
+        Audit::Refused(number) => REFUSED + number as u32,
+    }
+}
+
+// The record writer. Answers 0, the place brought to the one after the last byte, or 65,536 plus the number of a refusal.
+#[no_mangle]
+pub extern "C" fn radvoinis_write(
+    n: usize,
+    limit: usize,
+    steps: usize,
+    marks: &[u8],
+    from: &[u16],
+    to: &[u16],
+    buf: &mut [u8],
+    at: &mut usize,
+) -> u32
+    ensures { λ r. ⌜ (r ≡ writeCode (written (record { n = n; limit = limit; steps = steps }) (now (marks .entry)) (now (from .entry)) (now (to .entry)) (now (buf .entry)) (now (at .entry))))
+        × (now (at .exit) ≡ placeAfter (written (record { n = n; limit = limit; steps = steps }) (now (marks .entry)) (now (from .entry)) (now (to .entry)) (now (buf .entry)) (now (at .entry))) (now (at .entry)))
+        × (now (buf .exit) ≡ bufferAfter (record { n = n; limit = limit; steps = steps }) (now (marks .entry)) (now (from .entry)) (now (to .entry)) (now (buf .entry)) (now (at .entry))) ⌝ }
+{
+    let graph = Graph { n, limit, steps };
+    match writer::write(graph, marks, from, to, buf, *at) {
+        Written::End(end) => {
+            *at = end;
+            0
+        }
+        Written::Refused(number) => REFUSED + number as u32,
+    }
 }

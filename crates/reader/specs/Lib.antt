@@ -2,3 +2,4 @@
 pub mod Opening
 pub mod Turning
 pub mod Replaying
+pub mod Standing

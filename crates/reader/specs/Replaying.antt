@@ -2,6 +2,7 @@
 -- Assumes nothing.
 use mathlib.Core.List.{List, [], _∷_}
 use Prim.Native.Nat.{ℕ}
+use Rattle.gid.specs.declared.Update.{Update as Sent}
 use Rattle.gid.specs.Histories.{History}
 use Rattle.gid.specs.Outcomes.{Outcome, refused, accepted, outcome, after}
 use Rattle.record.specs.declared.splitter.Answer.{Answer}
@@ -26,3 +27,11 @@ afterItem limit h TooMany = h
 abbrev pub afterItems : ℕ → History → List Answer → History
 afterItems limit h [] = h
 afterItems limit h (a ∷ l) = afterItems limit (afterItem limit h a) l
+
+-- The update that a line sends, if it is one.
+abbrev pub sends : Answer → List Sent
+sends Nothing = []
+sends (Update r) = r .update ∷ []
+sends (Malformed n) = []
+sends BadNames = []
+sends TooMany = []

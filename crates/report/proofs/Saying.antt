@@ -16,15 +16,10 @@ use Rattle.gid.specs.News.{below}
 use Rattle.gid.specs.Outcomes.{Outcome, refused, accepted, outcome, after}
 use Rattle.gid.proofs.News.{below-same}
 use Rattle.tables.specs.declared.Graph.{Graph}
-use Rattle.tables.specs.declared.lengths.Lengths.{Lengths}
-use Rattle.tables.specs.Tables.{Tables, enough, needs, lengths}
+use Rattle.tables.specs.Tables.{Tables}
 use Rattle.tables.proofs.Refusing.{accepted-passes}
-use Rattle.engine.specs.declared.Answer.{Answer as Answered}
-use Rattle.engine.specs.declared.Answer.the-variants.{Accepted, Refused}
-use Rattle.engine.specs.Promise.{Promise}
 use Rattle.engine.proofs.Promising.{room-of}
-use Rattle.engine.proofs.Running.{Sound, was-accepted}
-use Rattle.engine.proofs.Replay.{Answers, yes-news, no-number, replay}
+use Rattle.engine.proofs.Running.{was-accepted}
 use Rattle.record.specs.declared.line.Line.{Line}
 use Rattle.record.specs.declared.splitter.Answer.{Answer}
 use Rattle.record.specs.declared.splitter.Answer.the-variants.{Nothing, Update as Read, Malformed, BadNames, TooMany}
@@ -35,10 +30,13 @@ use Rattle.record.specs.Items.{item, placeOf}
 use Rattle.record.specs.Splitting.{at, fed, advanced, afterFirst, afterFurther, afterLine, afterPart, atEnd, told}
 use Rattle.reader.specs.declared.Outcome.{Outcome as Came′}
 use Rattle.reader.specs.Turning.{Came, nothing, took, turned, malformed, badNames, tooMany}
+use Rattle.reader.specs.declared.Outcome.the-variants.{Accepted as Took, Refused as Turned}
 use Rattle.reader.specs.Replaying.{outcomeOf, afterItem}
-use Rattle.report.specs.Texts.{newsText, totalsOf, totalsText, row, verdictWord, having}
+use Rattle.reader.specs.Standing.{Standing}
+use Rattle.reader.proofs.Lines.{Tells, line-taken, line-refused, line-right}
+use Rattle.report.specs.Texts.{newsText, refusedText, totalsOf, totalsText}
 use Rattle.report.specs.Listing.{outcomeText, lineText, printed}
-use Rattle.report.specs.Printing.{tableText, endText, Printable, Standing}
+use Rattle.report.specs.Printing.{tableText, endText, Printable}
 
 -- line numbers have at most five digits
 item-place : (n : ℕ) (o : Option Update) → placeOf (item n o) ≡ n
@@ -99,53 +97,34 @@ totals-same f g e = rw (each 1, each 2, each 3, each 4) refl
     each : (k : ℕ) → below 2048 (λ s. eqb (f s) k) ≡ below 2048 (λ s. eqb (g s) k)
     each k = below-same 2048 (λ s. eqb (f s) k) (λ s. eqb (g s) k) (λ s h. ap (λ (x : ℕ). eqb x k) (e s h))
 
-module _ (limit : ℕ) (h : History) (g : Graph) (t : Tables) (s : Standing limit h g t) where
-  soundly : Sound g t h g t
-  soundly = record { legal = s .legal; fits = s .fits; states = refl; limit = refl; sizes = refl; room = rw (s .limits) (s .room) }
+-- the text of what the reader tells of a line
+told-text : {limit : ℕ} {h : History} {a : Answer} {g g′ : Graph} {t t′ : Tables} {o : Came′} → Came a g t g′ t′ o → g .n ≡ 2048 → Tells (t′ .news) (placeOf a) o (outcomeOf limit h a) → Standing limit (afterItem limit h a) g′ t′ → tableText o (t′ .news) (t′ .status) ≡ outcomeText (placeOf a) (status (afterItem limit h a)) (outcomeOf limit h a)
+unfolding newsText
+told-text nothing n q w = refl
+told-text {limit} {h} (took {r = r} {t′ = t′} {k = k} p) n q w = by (outcome 2048 limit h (r .update)) q
+  where
+    f : ℕ → ℕ
+    f = status (after 2048 limit h (r .update))
 
-  longs : enough (needs (g .n) (g .limit) (lengths t)) ≡ true
-  longs = rw (s .states, s .limits) (s .long)
+    by : (o : Outcome) → Tells (t′ .news) (r .line) (Took (r .line) k) o → newsText (r .line) (λ x. getD (t′ .status) x 0) (take k (t′ .news)) ≡ outcomeText (r .line) f o
+    by (accepted l) (line-taken e) =
+        let m = was-accepted p in
+        news-same (r .line) (λ x. getD (t′ .status) x 0) f (take k (t′ .news)) (λ x z. w .fits .status x (omega (arith, m .1 .named .inRange x z, n, w .states))) ∙
+        ap (newsText (r .line) f) e
+told-text {limit} {h} (turned {r = r} {t′ = t′} {k = k} p) n q w = by (outcome 2048 limit h (r .update)) q
+  where
+    by : (o : Outcome) → Tells (t′ .news) (r .line) (Turned (r .line) k) o → refusedText (r .line) k ≡ outcomeText (r .line) (status (after 2048 limit h (r .update))) o
+    by (refused j) line-refused = refl
+told-text malformed n q w = refl
+told-text badNames n q w = refl
+told-text tooMany n q w = refl
 
-  stands : {h′ : History} {g′ : Graph} {t′ : Tables} → Sound g t h′ g′ t′ → Standing limit h′ g′ t′
-  stands w =
-      record {
-        legal = w .legal;
-        fits = w .fits;
-        states = w .states ∙ s .states;
-        limits = w .limit ∙ s .limits;
-        room = omega (arith, w .room, w .limit, s .limits);
-        long = subst (λ (l : Lengths). enough (needs 2048 limit l) ≡ true) (sym (w .sizes)) (s .long);
-      }
-
-  updated : {g′ : Graph} {t′ : Tables} (x : Update) {a : Answered} → Promise g x t g′ a t′ → Answers (t′ .news) a (outcome 2048 limit h x) × Sound g t (after 2048 limit h x) g′ t′
-  updated {g′} {t′} x {a} p =
-      subst (λ (m : ℕ). Answers (t′ .news) a (outcome 2048 m h x) × Sound g t (after 2048 m h x) g′ t′) (s .limits)
-      (subst (λ (n : ℕ). Answers (t′ .news) a (outcome n (g .limit) h x) × Sound g t (after n (g .limit) h x) g′ t′) (s .states) (replay soundly longs x p))
-
-  -- the text of an accepted line
-  taken : (line : ℕ) {g′ : Graph} {t′ : Tables} (x : Update) {k : ℕ} → Promise g x t g′ (Accepted k) t′ → (o : Outcome) → Answers (t′ .news) (Accepted k) o → Standing limit (after 2048 limit h x) g′ t′ → newsText line (λ r. getD (t′ .status) r 0) (take k (t′ .news)) ≡ outcomeText line (status (after 2048 limit h x)) o
-  taken line {t′ = t′} x {k} p (accepted l) (yes-news e) w =
-      let m = was-accepted p in
-      news-same line (λ r. getD (t′ .status) r 0) (status (after 2048 limit h x)) (take k (t′ .news)) (λ r z. w .fits .status r (omega (arith, m .1 .named .inRange r z, s .states, w .states))) ∙
-      ap (newsText line (status (after 2048 limit h x))) e
-
-  turned-away : (line : ℕ) (f : ℕ → ℕ) {news : List ℕ} {k : ℕ} (o : Outcome) → Answers news (Refused k) o → row line (32 ∷ 114 ∷ 101 ∷ 102 ∷ 117 ∷ 115 ∷ 101 ∷ 100 ∷ 32 ∷ []) k ≡ outcomeText line f o
-  turned-away line f (refused k) no-number = refl
-
-  -- One line.
-  pub line-says : {a : Answer} {g′ : Graph} {t′ : Tables} {o : Came′} → Came a g t g′ t′ o → (tableText o (t′ .news) (t′ .status) ≡ lineText limit h a) × Standing limit (afterItem limit h a) g′ t′
-  unfolding lineText newsText
-  line-says nothing = (refl, s)
-  line-says (took {r = r} p) =
-      let w = updated (r .update) p in
-      let z = stands (w .1) in
-      (taken (r .line) (r .update) p (outcome 2048 limit h (r .update)) (w .0) z, z)
-  line-says (turned {r = r} p) =
-      let w = updated (r .update) p in
-      (turned-away (r .line) (status (after 2048 limit h (r .update))) (outcome 2048 limit h (r .update)) (w .0), stands (w .1))
-  line-says malformed = (refl, s)
-  line-says badNames = (refl, s)
-  line-says tooMany = (refl, s)
+-- One line.
+pub says-of : {a : Answer} {g g′ : Graph} {t t′ : Tables} {o : Came′} → Came a g t g′ t′ o → (limit : ℕ) (h : History) → Standing limit h g t → (tableText o (t′ .news) (t′ .status) ≡ lineText limit h a) × Standing limit (afterItem limit h a) g′ t′
+unfolding lineText
+says-of c limit h s =
+    let w = line-right s c in
+    (told-text c (s .states) (w .0) (w .1), w .1)
 
 -- a line, and what follows it
 pub printed-told : (limit : ℕ) (h : History) (a : Answer) (l : List Answer) → printed limit h (told a ++ l) ≡ lineText limit h a ++ printed limit (afterItem limit h a) l
@@ -157,15 +136,9 @@ printed-told limit h BadNames l = refl
 printed-told limit h TooMany l = refl
 
 -- The end of the record.
-pub end-says : (limit : ℕ) (h : History) (g : Graph) (t : Tables) → Standing limit h g t → {a : Answer} {g′ : Graph} {t′ : Tables} {o : Came′} → Came a g t g′ t′ o → (endText o t′ ≡ printed limit h (told a)) × Standing limit (afterItem limit h a) g′ t′
+pub end-of : {a : Answer} {g g′ : Graph} {t t′ : Tables} {o : Came′} → Came a g t g′ t′ o → (limit : ℕ) (h : History) → Standing limit h g t → (endText o t′ ≡ printed limit h (told a)) × Standing limit (afterItem limit h a) g′ t′
 unfolding printed
-end-says limit h g t s {a} {g′} {t′} c =
-    let w = line-says limit h g t s c in
+end-of {a} {t′ = t′} c limit h s =
+    let w = says-of c limit h s in
     let e : totalsOf (λ r. getD (t′ .status) r 0) ≡ totalsOf (status (afterItem limit h a)) = totals-same (λ r. getD (t′ .status) r 0) (status (afterItem limit h a)) (λ r z. w .1 .fits .status r (omega (arith, w .1 .states))) in
     (rw (w .0) (ap (λ (n : List ℕ). lineText limit h a ++ n) (ap totalsText e) ∙ sym (printed-told limit h a []) ∙ ap (printed limit h) (append-nil (told a))), w .1)
-
-pub says-of : {a : Answer} {g g′ : Graph} {t t′ : Tables} {o : Came′} → Came a g t g′ t′ o → (limit : ℕ) (h : History) → Standing limit h g t → (tableText o (t′ .news) (t′ .status) ≡ lineText limit h a) × Standing limit (afterItem limit h a) g′ t′
-says-of {g = g} {t = t} c limit h s = line-says limit h g t s c
-
-pub end-of : {a : Answer} {g g′ : Graph} {t t′ : Tables} {o : Came′} → Came a g t g′ t′ o → (limit : ℕ) (h : History) → Standing limit h g t → (endText o t′ ≡ printed limit h (told a)) × Standing limit (afterItem limit h a) g′ t′
-end-of {g = g} {t = t} c limit h s = end-says limit h g t s c

@@ -1,17 +1,13 @@
 -- A record that comes in parts: what the calls write, one behind another, is its listing.
 -- Assumes nothing.
 use mathlib.Core.Path.{_≡_, refl, sym, _∙_, ap, subst}
-use mathlib.Core.Bool.{true}
 use mathlib.Core.List.{List, [], _∷_, _++_, append-assoc, append-nil}
 use Prim.Native.Nat.{ℕ, _+_, _≤_, _<_}
 use native.Mathlib.Omega.{arith}
 use lib.ListN.{length, drop}
 use Rattle.gid.specs.Histories.{History}
 use Rattle.tables.specs.declared.Graph.{Graph}
-use Rattle.tables.specs.declared.lengths.Lengths.{Lengths}
-use Rattle.tables.specs.Tables.{Tables, enough, needs, lengths}
-use Rattle.engine.proofs.Running.{sound}
-use Rattle.engine.specs.Runs.{begun}
+use Rattle.tables.specs.Tables.{Tables}
 use Rattle.record.specs.Text.{WroteAt}
 use Rattle.record.specs.declared.splitter.Splitter.{Splitter}
 use Rattle.record.specs.Items.{items}
@@ -19,10 +15,11 @@ use Rattle.record.specs.Splitting.{started, afterPart, atEnd, told, run}
 use Rattle.record.proofs.Splitting.{run-items, run-part}
 use Rattle.reader.specs.Opening.{readerGraph, openNumber, freshened}
 use Rattle.reader.specs.Replaying.{afterItem}
-use Rattle.reader.proofs.Opening.{opened-fresh, opened-lengths, opened-long}
+use Rattle.reader.specs.Standing.{Standing}
+use Rattle.reader.proofs.Lines.{opened-stands}
 use Rattle.report.specs.Texts.{header}
 use Rattle.report.specs.Listing.{lineText, printed, listing}
-use Rattle.report.specs.Printing.{lineRoom, tableText, endText, Standing, Lists, Ends, Prints}
+use Rattle.report.specs.Printing.{lineRoom, tableText, endText, Lists, Ends, Prints}
 use Rattle.report.proofs.Placing.{placed-none, placed-then}
 use Rattle.report.proofs.Saying.{printed-told}
 
@@ -72,12 +69,6 @@ session-prints {limit} {h} {s} z (lines-then rest e p n) =
     let a = p .says limit h z in
     rw e (ap (λ (x : List ℕ). p .text ++ x) (session-prints (a .1) n) ∙ sym (a .2 rest))
 session-prints {limit} {h} z (ended p) = p .says limit h z .0
-
--- opened tables stand at the start
-pub opened-stands : (limit : ℕ) (t : Tables) → openNumber limit t ≡ 0 → Standing limit [] (readerGraph limit) (freshened limit t)
-opened-stands limit t e =
-    let s = sound (opened-fresh limit t e) begun in
-    record { legal = s .legal; fits = s .fits; states = refl; limits = refl; room = omega arith; long = subst (λ (l : Lengths). enough (needs 2048 limit l) ≡ true) (sym (opened-lengths limit t e)) (opened-long limit t e) }
 
 -- On opened tables with limit 2,048 the header and what the calls write, over any parts that make up the input, are the listing of the input.
 pub listed : (t : Tables) → openNumber 2048 t ≡ 0 → (input w : List ℕ) → Session started (readerGraph 2048) (freshened 2048 t) input w → header ++ w ≡ listing input

@@ -1,14 +1,12 @@
 -- What the calls that print a record promise.
 -- Assumes nothing.
 use mathlib.Core.Path.{_≡_}
-use mathlib.Core.Bool.{true}
 use mathlib.Core.List.{List, [], _++_}
 use Prim.Native.Nat.{ℕ, _+_, _≤_, _<_}
 use lib.ListN.{length, getD, take, drop}
-use Rattle.gid.specs.Histories.{History, Legal}
+use Rattle.gid.specs.Histories.{History}
 use Rattle.tables.specs.declared.Graph.{Graph}
-use Rattle.tables.specs.Tables.{Tables, enough, needs, lengths}
-use Rattle.tables.specs.Fitting.{Consistent}
+use Rattle.tables.specs.Tables.{Tables}
 use Rattle.record.specs.Text.{WroteAt}
 use Rattle.record.specs.declared.splitter.Answer.{Answer}
 use Rattle.record.specs.declared.splitter.Splitter.{Splitter}
@@ -17,6 +15,7 @@ use Rattle.reader.specs.declared.Outcome.{Outcome}
 use Rattle.reader.specs.declared.Outcome.the-variants.{Nothing, Accepted, Refused}
 use Rattle.reader.specs.Turning.{Came}
 use Rattle.reader.specs.Replaying.{afterItem}
+use Rattle.reader.specs.Standing.{Standing}
 use Rattle.report.specs.Texts.{refusedText, newsText, totalsOf, totalsText}
 use Rattle.report.specs.Listing.{lineText, printed}
 
@@ -39,15 +38,6 @@ abbrev pub Printable : Outcome → List ℕ → Type 0
 Printable Nothing news = Unit {0}
 Printable (Accepted line k) news = (line < 100000) × (k ≤ 2048) × (k ≤ length news)
 Printable (Refused line k) news = line < 100000
-
--- A reader's state value and tables, long enough, that fit for the legal history h.
-pub record Standing (limit : ℕ) (h : History) (g : Graph) (t : Tables) : Type 0 where
-  pub legal : Legal h
-  pub fits : Consistent h g t
-  pub states : g .n ≡ 2048
-  pub limits : g .limit ≡ limit
-  pub room : g .steps ≤ limit
-  pub long : enough (needs 2048 limit (lengths t)) ≡ true
 
 -- The line a has been applied, and its text written at a place of a buffer.
 pub record Lists (a : Answer) (g : Graph) (t : Tables) (g′ : Graph) (t′ : Tables) (at : ℕ) (d e : List ℕ) (r : ℕ) : Type 0 where

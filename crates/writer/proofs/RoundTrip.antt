@@ -24,9 +24,8 @@ use Rattle.tables.proofs.Listed.{listed-step}
 use Rattle.record.specs.declared.splitter.Answer.{Answer}
 use Rattle.record.specs.Text.{Within}
 use Rattle.record.specs.Items.{items}
-use Rattle.reader.specs.Opening.{openNumber}
 use Rattle.reader.specs.Replaying.{afterItems}
-use Rattle.reader.proofs.Lines.{Reading}
+use Rattle.reader.specs.Standing.{Standing}
 use Rattle.writer.specs.declared.marking.Mark.the-variants.{Terminal as ForTerminal, Close as ForClose}
 use Rattle.writer.specs.Order.{hasMark, marking, markedLines, stepLines, writtenUpdates, recordOf}
 use Rattle.writer.specs.Answering.{theRecord, allLong, written, bufferAfter}
@@ -142,9 +141,9 @@ write-read g t f buf at r e =
     let w = ended g (t .marks) (t .from) (t .to) buf at r e in
     subst (λ (b : List ℕ). ReadBack (g .limit) (g .n) (f .0) (items b)) (sym (w .1)) (round-trip g t f (w .0))
 
--- The same of the tables that the reader filled from its own, t₀, with the same limit.
-pub same-tables : (g : Graph) (t : Tables) → Fits g t → lentNumber g (allLong g (t .marks) (t .from) (t .to)) ≡ 0 → (t₀ : Tables) (o : openNumber (g .limit) t₀ ≡ 0) {g′ : Graph} {t′ : Tables} → Reading (g .limit) t₀ o (afterItems (g .limit) [] (items (theRecord g (t .marks) (t .from) (t .to)))) g′ t′ → SameTables g t g′ t′
-same-tables g t f e t₀ o {g′} {t′} r =
+-- The same of the tables that the reader filled, with the same limit.
+pub same-tables : (g : Graph) (t : Tables) → Fits g t → lentNumber g (allLong g (t .marks) (t .from) (t .to)) ≡ 0 → {g′ : Graph} {t′ : Tables} → Standing (g .limit) (afterItems (g .limit) [] (items (theRecord g (t .marks) (t .from) (t .to)))) g′ t′ → SameTables g t g′ t′
+same-tables g t f e {g′} {t′} r =
     let c = f .2 in
     let few = lent-leaves g (allLong g (t .marks) (t .from) (t .to)) e .few-states in
     let b = round-trip g t f e in

@@ -1,0 +1,18 @@
+-- Where a reader stands in a record: the tables of a run over the lines accepted so far.
+-- Assumes nothing.
+use mathlib.Core.Path.{_≡_}
+use mathlib.Core.Bool.{true}
+use Prim.Native.Nat.{ℕ, _≤_}
+use Rattle.gid.specs.Histories.{History, Legal}
+use Rattle.tables.specs.declared.Graph.{Graph}
+use Rattle.tables.specs.Tables.{Tables, enough, needs, lengths}
+use Rattle.tables.specs.Fitting.{Consistent}
+
+-- A reader's state value and tables, long enough, that fit for the legal history h.
+pub record Standing (limit : ℕ) (h : History) (g : Graph) (t : Tables) : Type 0 where
+  pub legal : Legal h
+  pub fits : Consistent h g t
+  pub states : g .n ≡ 2048
+  pub limits : g .limit ≡ limit
+  pub room : g .steps ≤ limit
+  pub long : enough (needs 2048 limit (lengths t)) ≡ true
