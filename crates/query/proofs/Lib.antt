@@ -1,0 +1,4 @@
+-- The laws that following a record rests on.
+pub mod Numbers
+pub mod Starting
+pub mod Turns
