@@ -13,6 +13,9 @@ extern "C" {
 /* A refusal answers this plus its number. */
 #define RADVOINIS_REFUSED 65536u
 
+/* radvoinis_status answers a refusal by this plus its number. */
+#define RADVOINIS_LINE_REFUSED 16u
+
 /* The bytes of the status table. */
 enum radvoinis_status_byte {
     RADVOINIS_UNSEEN = 0,
@@ -56,6 +59,10 @@ uint32_t radvoinis_audit(size_t n, size_t limit, size_t steps,
 uint32_t radvoinis_write(size_t n, size_t limit, size_t steps, const uint8_t *marks, size_t marks_len,
                          const uint16_t *from, size_t from_len, const uint16_t *to, size_t to_len,
                          uint8_t *buf, size_t buf_len, size_t *at);
+
+/* The status of a state after a record of 2,048 states and at most 2,048 steps: 0 to 4; or RADVOINIS_LINE_REFUSED plus the number
+   of the first refused line (5 to 12). A state of 2,048 or more answers 21, tested first. */
+uint8_t radvoinis_status(const uint8_t *record, size_t record_len, uint32_t state);
 
 #ifdef __cplusplus
 }

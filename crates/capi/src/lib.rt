@@ -1,4 +1,4 @@
-// The engine's calls for C and Rust: thin exports with the same numbers. include/radvoinis.h declares them.
+// The calls for C and Rust: thin exports of the library's calls, with the same numbers. include/radvoinis.h declares them.
 ghost use mathlib.Core.Path.{_≡_};
 ghost use mathlib.Core.List.{List};
 ghost use Prim.Native.Nat.{ℕ, _+_};
@@ -8,6 +8,7 @@ ghost use lib.ListN.{length};
 ghost use Rattle.tables.specs.Refused.{statusAnswer};
 ghost use Rattle.engine.specs.Done.{tablesOf};
 ghost use Rattle.writer.specs.Answering.{written, bufferAfter};
+ghost use Rattle.query.specs.Answering.{answerOf};
 ghost use Rattle.capi.specs.Calls.{sentBy, Called, statusCode, Checked, writeCode, placeAfter};
 use audit::Audit;
 use engine::Answer;
@@ -195,4 +196,39 @@ pub extern "C" fn radvoinis_write(
         }
         Written::Refused(number) => REFUSED + number as u32,
     }
+}
+
+// The status of a state after a record, 0 to 4, or 16 plus the number of the first refused line. "A state of 2,048 or more counts as refusal 5 and is tested first."
+#[no_mangle]
+pub extern "C" fn radvoinis_status(bytes: &[u8], state: u32) -> u8
+    ensures { λ r. ⌜ r ≡ answerOf (now (bytes .entry)) state ⌝ }
+{
+    let mut status = [0u8; 2048];
+    let mut marks = [0u8; 2048];
+    let mut from = [0u16; 2048];
+    let mut to = [0u16; 2048];
+    let mut successor = [0u16; 2048];
+    let mut news = [0u16; 2048];
+    let mut in_head = [0u16; 2048];
+    let mut out_head = [0u16; 2048];
+    let mut queue = [0u16; 2048];
+    let mut visited = [0u16; 2048];
+    let mut in_next = [0u16; 2048];
+    let mut out_next = [0u16; 2048];
+    query::status_after(
+        bytes,
+        state as usize,
+        &mut status,
+        &mut marks,
+        &mut from,
+        &mut to,
+        &mut successor,
+        &mut news,
+        &mut in_head,
+        &mut out_head,
+        &mut queue,
+        &mut visited,
+        &mut in_next,
+        &mut out_next,
+    )
 }

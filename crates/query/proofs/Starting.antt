@@ -1,6 +1,6 @@
 -- Opening the tables: refused, or standing at the start of a record.
 -- Assumes nothing.
-use mathlib.Core.Path.{_≡_, refl, sym, _∙_, subst}
+use mathlib.Core.Path.{_≡_, refl, sym, _∙_, ap, subst}
 use mathlib.Core.Bool.{Bool, true, false, _&&_, false≢true}
 use mathlib.Core.List.{List, [], _∷_}
 use Prim.Native.Nat.{ℕ, _≤_}
@@ -10,8 +10,11 @@ use lib.ListN.{length}
 use borrow.Author.Tests.{leb-true}
 use Rattle.gid.specs.Histories.{History}
 use Rattle.tables.specs.declared.Graph.{Graph}
+use Rattle.tables.specs.declared.lengths.Lengths.{Lengths}
 use Rattle.tables.specs.Tables.{Tables, Needed, enough, needs, lengths}
+use Rattle.tables.specs.Refused.{lentNumber}
 use Rattle.engine.specs.declared.Engine.{Engine}
+use Rattle.engine.specs.Done.{tablesOf}
 use Rattle.reader.specs.declared.Opened.{Opened}
 use Rattle.reader.specs.declared.Opened.the-variants.{Ready, Refused}
 use Rattle.reader.specs.Opening.{Opens, refuses, readies, openNumber, readerGraph}
@@ -44,3 +47,11 @@ first-long (x ∷ l) e = by (leb (x .need) (x .have)) refl e
 -- a reader's status table has an entry for each state
 pub status-long : {limit : ℕ} {h : History} {g : Graph} {t : Tables} → Standing limit h g t → 2048 ≤ length (t .status)
 status-long {limit} {t = t} s = first-long (needs 2048 limit (lengths t)) (s .long)
+
+abbrev each : ℕ → Lengths
+each k = record { status = k; marks = k; successor = k; news = k; «in_head» = k; «out_head» = k; queue = k; visited = k; from = k; to = k; «in_next» = k; «out_next» = k }
+
+-- Tables of 2,048 entries each are long enough.
+pub zeros-open : (z : List ℕ) → length z ≡ 2048 → openNumber 2048 (tablesOf z z z z z z z z z z z z) ≡ 0
+unfolding lentNumber
+zeros-open z e = subst (λ (l : Lengths). lentNumber (readerGraph 2048) (enough (needs 2048 2048 l)) ≡ 0) (sym (ap each e)) refl
