@@ -98,10 +98,10 @@ totals-same f g e = rw (each 1, each 2, each 3, each 4) refl
     each k = below-same 2048 (λ s. eqb (f s) k) (λ s. eqb (g s) k) (λ s h. ap (λ (x : ℕ). eqb x k) (e s h))
 
 -- the text of what the reader tells of a line
-told-text : {limit : ℕ} {h : History} {a : Answer} {g g′ : Graph} {t t′ : Tables} {o : Came′} → Came a g t g′ t′ o → g .n ≡ 2048 → Tells (t′ .news) (placeOf a) o (outcomeOf limit h a) → Standing limit (afterItem limit h a) g′ t′ → tableText o (t′ .news) (t′ .status) ≡ outcomeText (placeOf a) (status (afterItem limit h a)) (outcomeOf limit h a)
+told-text : (limit : ℕ) (h : History) {a : Answer} {g g′ : Graph} {t t′ : Tables} {o : Came′} → Came a g t g′ t′ o → g .n ≡ 2048 → Tells (t′ .news) (placeOf a) o (outcomeOf limit h a) → Standing limit (afterItem limit h a) g′ t′ → tableText o (t′ .news) (t′ .status) ≡ outcomeText (placeOf a) (status (afterItem limit h a)) (outcomeOf limit h a)
 unfolding newsText
-told-text nothing n q w = refl
-told-text {limit} {h} (took {r = r} {t′ = t′} {k = k} p) n q w = by (outcome 2048 limit h (r .update)) q
+told-text limit h nothing n q w = refl
+told-text limit h (took {r = r} {t′ = t′} {k = k} p) n q w = by (outcome 2048 limit h (r .update)) q
   where
     f : ℕ → ℕ
     f = status (after 2048 limit h (r .update))
@@ -111,20 +111,20 @@ told-text {limit} {h} (took {r = r} {t′ = t′} {k = k} p) n q w = by (outcome
         let m = was-accepted p in
         news-same (r .line) (λ x. getD (t′ .status) x 0) f (take k (t′ .news)) (λ x z. w .fits .status x (omega (arith, m .1 .named .inRange x z, n, w .states))) ∙
         ap (newsText (r .line) f) e
-told-text {limit} {h} (turned {r = r} {t′ = t′} {k = k} p) n q w = by (outcome 2048 limit h (r .update)) q
+told-text limit h (turned {r = r} {t′ = t′} {k = k} p) n q w = by (outcome 2048 limit h (r .update)) q
   where
     by : (o : Outcome) → Tells (t′ .news) (r .line) (Turned (r .line) k) o → refusedText (r .line) k ≡ outcomeText (r .line) (status (after 2048 limit h (r .update))) o
     by (refused j) line-refused = refl
-told-text malformed n q w = refl
-told-text badNames n q w = refl
-told-text tooMany n q w = refl
+told-text limit h malformed n q w = refl
+told-text limit h badNames n q w = refl
+told-text limit h tooMany n q w = refl
 
 -- One line.
 pub says-of : {a : Answer} {g g′ : Graph} {t t′ : Tables} {o : Came′} → Came a g t g′ t′ o → (limit : ℕ) (h : History) → Standing limit h g t → (tableText o (t′ .news) (t′ .status) ≡ lineText limit h a) × Standing limit (afterItem limit h a) g′ t′
 unfolding lineText
 says-of c limit h s =
     let w = line-right s c in
-    (told-text c (s .states) (w .0) (w .1), w .1)
+    (told-text limit h c (s .states) (w .0) (w .1), w .1)
 
 -- a line, and what follows it
 pub printed-told : (limit : ℕ) (h : History) (a : Answer) (l : List Answer) → printed limit h (told a ++ l) ≡ lineText limit h a ++ printed limit (afterItem limit h a) l
