@@ -1,20 +1,34 @@
 #!/usr/bin/env bash
-# Plants faults in the plain C engine, one at a time, and runs the harness on each, shortened: the harness must catch them all, and must
-# pass the engine without a fault. Takes some minutes. The last line is 'N passed, M failed'.
+# Plants faults in the calls in plain C (the engine of bench/baseline.c, and tests/calls.c over the naive definitions),
+# one at a time, and runs the suite that must catch them on each, shortened: it must, and each suite must pass the calls without a fault.
+# With names of suites as arguments, those faults alone. All take about twenty minutes. The last line is 'N passed, M failed'.
 set -u
+wanted=" ${*:-harness damage} "
 cd "$(dirname "$0")/.." || exit 2
 dir=target/faults
-mkdir -p "$dir"
-flags="-std=c11 -D_GNU_SOURCE -O2 -w -Ibench -Iinclude"
-for file in harness lent reference; do gcc $flags -c tests/$file.c -o "$dir/$file.o" || exit 2; done
+rm -rf "$dir"
+mkdir -p "$dir"/{suites,library}
+flags="-std=c11 -D_GNU_SOURCE -O2 -w -Ibench -Iinclude -Itests"
 
 passed=0 failed=0
 
-# Builds the harness on the two C files, and says what it closes with.
-harness() {
-    gcc $flags -Dbaseline_update=radvoinis_update "$dir/baseline.c" "$dir/questions.c" "$dir"/{harness,lent,reference}.o \
-        -o "$dir/harness" || return 2
-    "$dir/harness" 1 0 2>"$dir/progress" | tail -n 1
+# Compiles a copy that faults are planted in.
+compile() { gcc $flags -Dbaseline_update=radvoinis_update -c "$dir/$1" -o "$dir/${1%.c}.o"; }
+
+for file in harness damage groups table lent runs wild fitting reference; do
+    gcc $flags -c tests/$file.c -o "$dir/suites/$file.o" || exit 2
+done
+cp bench/baseline.c tests/{calls,fitting,reference}.c "$dir/library/"
+for file in library/{baseline,calls,fitting,reference}.c; do
+    compile $file || exit 2
+done
+
+# Builds the suite on the copies, and says what it closes with. The library shows its calls alone: the suite has definitions of its own.
+closing_of() { # SUITE
+    ld -r "$dir"/library/*.o -o "$dir/library.o" && objcopy --wildcard --keep-global-symbol='radvoinis_*' "$dir/library.o" || return 2
+    gcc "$dir/suites/$1.o" "$dir"/suites/{groups,table,lent,runs,wild,fitting,reference}.o "$dir/library.o" \
+        -o "$dir/$1" || return 2
+    "$dir/$1" 1 0 2>"$dir/progress" | tail -n 1
 }
 
 tell() { # VERDICT NAME
@@ -22,34 +36,35 @@ tell() { # VERDICT NAME
     echo "$1: $2"
 }
 
-fresh() {
-    cp bench/baseline.c "$dir/baseline.c"
-    sed 's#"../include/#"#' tests/questions.c >"$dir/questions.c"
-}
-
-# One fault: a sed script on one of the two files, which must change it.
-fault() { # NAME SCRIPT [FILE]
-    local file=$dir/${3:-baseline.c} closing
-    fresh
-    cp "$file" "$file.was"
-    sed -i "$2" "$file"
-    if cmp -s "$file" "$file.was"; then tell "NOT PLANTED" "$1" && return; fi
-    closing=$(harness)
+# One fault: a sed script on one of the copies, which must change it.
+fault() { # NAME SCRIPT [FILE] [SUITE]
+    local file=${3:-library/baseline.c} suite=${4:-harness} closing
+    [[ $wanted == *" $suite "* ]] || return
+    cp "$dir/$file" "$dir/plain"
+    sed -i "$2" "$dir/$file"
+    if cmp -s "$dir/$file" "$dir/plain"; then tell "NOT PLANTED" "$1" && return; fi
+    closing=$(compile $file && closing_of "$suite")
     case $closing in
     *" passed, 0 failed") tell "NOT CAUGHT" "$1" ;;
     *" failed") tell ok "$1 (${closing#*, })" ;;
     *) tell "NOT BUILT" "$1" ;;
     esac
+    cp "$dir/plain" "$dir/$file"
+    compile $file
 }
 
-# A script for the lines of one function.
-within() { echo "/^static .*[ *]$1(/,/^}/ { $2; }"; }
+call_fault() { fault "$1" "$2" library/calls.c "${3:-harness}"; }
+fitting_fault() { fault "$1" "$2" library/fitting.c damage; }
 
-fresh
-case $(harness) in
-*" passed, 0 failed") tell ok "no fault" ;;
-*) tell "FALSE ALARM" "no fault" ;;
-esac
+# A script for the lines of one function.
+within() { echo "/^[a-z].*[ *]$1(/,/^}/ { $2; }"; }
+
+for suite in $wanted; do
+    case $(closing_of $suite) in
+    *" passed, 0 failed") tell ok "no fault: $suite" ;;
+    *) tell "FALSE ALARM" "no fault: $suite" ;;
+    esac
+done
 
 # verdicts
 fault "turns every update away" 's/    if (number) return REFUSED + (uint32_t)number;/    return REFUSED + 9;/'
@@ -150,13 +165,51 @@ fault "successors behind the list are followed" "$(within meets_open 's/        
 fault "successors are followed without end" "$(within meets_open 's/ || left == 0//')"
 fault "states are queued twice" "$(within offer_sources 's/!e->visited\[y\] && //')"
 
-# the other calls
-fault "the question takes n for a state" 's/state >= n/state > n/' questions.c
-fault "the question tests 4 before 3" 's/^    if (status_len < n).*/    if (steps > limit) return RADVOINIS_REFUSED + 4;\n&/' questions.c
-fault "the question forgets the steps" 's/^    if (steps > limit).*//' questions.c
-fault "the question cuts the byte" 's/return status\[state\];/return status[state] % 8;/' questions.c
-fault "the whole list is no news part" 's/count <= news_len/count < news_len/' questions.c
-fault "the news part of too high a number is the list" 's/: 0;/: news_len;/' questions.c
+# the status question and the news length
+call_fault "the question takes n for a state" 's/state >= n/state > n/'
+call_fault "the question tests 4 before 3" 's/steps, status_len >= n)/steps, status_len >= n || steps > limit)/'
+call_fault "the question forgets the steps" 's/steps, status_len >= n)/0, status_len >= n)/'
+call_fault "the question cuts the byte" 's/return status\[state\];/return status[state] % 8;/'
+call_fault "the whole list is no news part" 's/count <= news_len/count < news_len/'
+call_fault "the news part of too high a number is the list" 's/: 0;/: news_len;/'
+
+# the table check: what fits
+fitting_fault "a named state that nothing mentions fits" 's/    if (memcmp(marks, t->marks, t->n) != 0) return 0;/    for (size_t s = 0; s < t->n; s++) if ((marks[s] ^ t->marks[s]) \& ~NAMED || marks[s] > t->marks[s]) return 0;/'
+fitting_fault "a marked state that is not named fits" 's/    if (memcmp(marks, t->marks, t->n) != 0) return 0;/    for (size_t s = 0; s < t->n; s++) if ((marks[s] ^ t->marks[s]) \& ~NAMED || marks[s] < t->marks[s]) return 0;/'
+fitting_fault "a mark byte above 7 fits" 's/    if (memcmp(marks, t->marks, t->n) != 0) return 0;/    for (size_t s = 0; s < t->n; s++) if ((marks[s] ^ t->marks[s]) \& 7) return 0;/'
+fitting_fault "statuses are not looked at" 's/return memcmp(status, t->status, t->n) == 0;/return 1;/'
+fitting_fault "the last state is not looked at" 's/return memcmp(status, t->status, t->n) == 0;/return memcmp(status, t->status, t->n - 1) == 0;/'
+fitting_fault "an open state called live fits" 's/    return memcmp(status, t->status, t->n) == 0;/    for (size_t s = 0; s < t->n; s++) if (status[s] != t->status[s] \&\& !(status[s] == OPEN \&\& t->status[s] == LIVE)) return 0; return 1;/'
+fitting_fault "an unknown state called dead fits" 's/    return memcmp(status, t->status, t->n) == 0;/    for (size_t s = 0; s < t->n; s++) if (status[s] != t->status[s] \&\& !(status[s] == UNKNOWN \&\& t->status[s] == DEAD)) return 0; return 1;/'
+fitting_fault "a dead state called unknown fits, with a ring of successors" 's/    return memcmp(status, t->status, t->n) == 0;/    for (size_t s = 0; s < t->n; s++) if (status[s] != t->status[s] \&\& !(status[s] == DEAD \&\& t->status[s] == UNKNOWN)) return 0; return 1;/; s/turns = chain_length(t, s, far);/turns = leaves(t, s) * t->n;/'
+fitting_fault "a ring of successors fits" 's/turns = chain_length(t, s, far);/turns = leaves(t, s) * t->n;/'
+fitting_fault "a successor that leaves another state fits" 's/ && t->from\[p\] == s//'
+fitting_fault "a successor behind the list fits" "$(within leaves 's/p < t->steps/p <= t->steps/')"
+fitting_fault "a successor of a live state fits" 's/if (t->status\[s\] != UNKNOWN && t->successor/if (t->status[s] != UNKNOWN \&\& t->status[s] != LIVE \&\& t->successor/'
+fitting_fault "any other successor than the first step out does not fit" "$(within leaves 's/    return p < /    for (size_t q = 0; q < p \&\& q < t->steps; q++) if (t->from[q] == s) return 0;\n&/')"
+fitting_fault "within n - 2 steps" "$(within chain_length 's/t->n - 1/t->n - 2/g')"
+fitting_fault "no steps into a state are looked at" 's/list_fits(t, t->to, t->in_head, t->in_next) && //'
+fitting_fault "no steps out of a state are looked at" 's/ && list_fits(t, t->from, t->out_head, t->out_next)//'
+fitting_fault "the states' list entries are not looked at" 's/return memcmp(last, head, 2 \* t->n) == 0;/return 1;/'
+fitting_fault "the steps' list entries are not looked at" 's/ || next\[p\] != last\[ends\[p\]\]//'
+fitting_fault "a free list entry does not fit" 's/    return memcmp(last, head, 2 \* t->n) == 0;/    if (next == t->in_next \&\& next[t->steps] > 8192) return 0;\n&/'
+fitting_fault "visited marks are not looked at" 's/ && fits_visited(t)//'
+fitting_fault "a step to a state out of range fits" 's/t->from\[p\] >= t->n || t->to\[p\] >= t->n/t->from[p] >= t->n || t->to[p] > t->n/; s/if (ends\[p\] >= t->n || next/if (ends[p] >= t->n) continue; if (next/'
+fitting_fault "a repeated step does not fit" "$(within history_of 's/        history_add(h, (Update){.E.*/        if (p > 0 \&\& t->from[p] == t->from[p - 1] \&\& t->to[p] == t->to[p - 1]) return 0;\n&/')"
+
+# the table check: what it writes and refuses
+call_fault "a yes leaves a state visited" "$(within radvoinis_audit 's/visited\[s\] = yes ? 0 : 1/visited[s] = s > 0/')" damage
+call_fault "a no writes a mark" "$(within radvoinis_audit 's/    return yes;/    if (!yes) ((uint8_t *)marks)[0] |= 1;\n&/')" damage
+call_fault "a yes clears a free list entry" "$(within radvoinis_audit 's/    return yes;/    if (yes \&\& steps < limit) ((uint16_t *)in_next)[steps] = 0;\n&/')" damage
+call_fault "the queue is written past n" "$(within radvoinis_audit 's/    return yes;/    if (queue_len > n) queue[n] = 0;\n&/')" damage
+call_fault "a refusal unmarks a state" "$(within radvoinis_audit 's/    if (number) return/    if (number == 4) visited[0] = 0;\n&/')" damage
+call_fault "4 before 3" "$(within radvoinis_audit 's/by_state && by_step)/(by_state \&\& by_step) || steps > limit)/')" damage
+for table in status marks successor in_head out_head queue visited; do
+    call_fault "the check's $table too short by one" "$(within radvoinis_audit "s/${table}_len >= n\b/${table}_len + 1 >= n/")" damage
+done
+for table in from to in_next out_next; do
+    call_fault "the check's $table too short by one" "$(within radvoinis_audit "s/\b${table}_len >= limit/${table}_len + 1 >= limit/")" damage
+done
 
 echo "$passed passed, $failed failed"
 [ "$failed" -eq 0 ]

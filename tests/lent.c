@@ -1,53 +1,22 @@
-// The lent tables and their guards.
+// The lent tables.
 #include "lent.h"
 #include "../include/radvoinis.h"
+#include "groups.h"
 #include "random.h"
 #include <stdlib.h>
 #include <string.h>
-#include <sys/mman.h>
 
-enum { PAGE = 4096, AREA = (2 * MOST_ENTRIES + GUARD + PAGE - 1) / PAGE * PAGE };
-
-volatile unsigned long lent_calls, lent_inside;
+enum { MOST_ENTRIES = MOST_STEPS + 64 };
 
 static int by_step(Name k) { return k == FROM || k == TO || k == IN_NEXT || k == OUT_NEXT; }
-
-static unsigned char *map_area(void)
-{
-    unsigned char *pages = mmap(NULL, AREA + 2 * PAGE, PROT_NONE, MAP_PRIVATE | MAP_ANONYMOUS, -1, 0);
-    if (pages == MAP_FAILED || mprotect(pages + PAGE, AREA, PROT_READ | PROT_WRITE)) abort();
-    return pages + PAGE;
-}
 
 void lent_make(Lent *l)
 {
     *l = (Lent){0};
-    for (Name k = 0; k < TABLES; k++) {
-        l->table[k].area = map_area();
-        l->table[k].width = k <= MARKS ? 1 : 2;
-        l->table[k].before = malloc(AREA);
-        if (!l->table[k].before) abort();
-    }
+    for (Name k = 0; k < TABLES; k++) table_make(&l->table[k], k <= MARKS ? 1 : 2, MOST_ENTRIES);
 }
 
-static void fill(unsigned char *at, size_t count)
-{
-    for (size_t i = 0; i < count; i += 8) {
-        uint64_t x = random_word();
-        memcpy(at + i, &x, count - i < 8 ? count - i : 8);
-    }
-}
-
-void lent_place(Lent *l, Name k, size_t length, Side side)
-{
-    Table *t = &l->table[k];
-    size_t size = length * t->width;
-    t->length = t->told = length;
-    t->at = side == PAGE_BEHIND ? t->area + AREA - size : t->area;
-    t->zone = side == PAGE_BEHIND ? t->at - GUARD : t->at;
-    t->zone_bytes = size + GUARD;
-    fill(t->zone, t->zone_bytes);
-}
+void lent_place(Lent *l, Name k, size_t length, Side side) { table_place(&l->table[k], length, side); }
 
 size_t lent_needed(const Lent *l, Name k) { return by_step(k) ? l->limit : l->n; }
 
@@ -68,51 +37,41 @@ void lent_fresh(Lent *l)
     l->steps[0] = (size_t)random_word(), l->steps[1] = 0, l->steps[2] = (size_t)random_word();
 }
 
-size_t lent_get(const Lent *l, Name k, size_t i) { return l->table[k].width == 1 ? bytes(l, k)[i] : words(l, k)[i]; }
-
-static void put(unsigned char *table, size_t width, size_t i, size_t x)
+Tables lent_tables(const Lent *l)
 {
-    if (width == 1) table[i] = (uint8_t)x;
-    else ((uint16_t *)(void *)table)[i] = (uint16_t)x;
+    return (Tables){
+        .n = l->n,
+        .steps = l->steps[1],
+        .status = bytes(l, STATUS),
+        .marks = bytes(l, MARKS),
+        .from = words(l, FROM),
+        .to = words(l, TO),
+        .successor = words(l, SUCCESSOR),
+        .in_head = words(l, IN_HEAD),
+        .out_head = words(l, OUT_HEAD),
+        .visited = words(l, VISITED),
+        .in_next = words(l, IN_NEXT),
+        .out_next = words(l, OUT_NEXT),
+    };
 }
 
-void lent_set(Lent *l, Name k, size_t i, size_t x) { put(l->table[k].at, l->table[k].width, i, x); }
-
-int lent_enough(const Lent *l)
+int lent_enough(const Lent *l, unsigned set)
 {
     for (Name k = 0; k < TABLES; k++)
-        if (l->table[k].told < lent_needed(l, k)) return 0;
+        if ((set >> k & 1) && l->table[k].told < lent_needed(l, k)) return 0;
     return 1;
 }
 
 void lent_keep(Lent *l)
 {
-    for (Name k = 0; k < TABLES; k++) memcpy(l->table[k].before, l->table[k].zone, l->table[k].zone_bytes);
+    for (Name k = 0; k < TABLES; k++) table_keep(&l->table[k]);
     memcpy(l->steps_before, l->steps, sizeof l->steps);
 }
-
-static unsigned char *copy_of(const Table *t) { return t->before + (t->at - t->zone); }
-
-void lent_expect(Lent *l, Name k, size_t i, size_t x) { put(copy_of(&l->table[k]), l->table[k].width, i, x); }
-
-void lent_expect_free(Lent *l, Name k, size_t entries)
-{
-    Table *t = &l->table[k];
-    memcpy(copy_of(t), t->at, entries * t->width);
-}
-
-size_t lent_was(const Lent *l, Name k, size_t i)
-{
-    const unsigned char *copy = copy_of(&l->table[k]);
-    return l->table[k].width == 1 ? copy[i] : ((const uint16_t *)(const void *)copy)[i];
-}
-
-int lent_same(const Lent *l, Name k) { return memcmp(l->table[k].before, l->table[k].zone, l->table[k].zone_bytes) == 0; }
 
 int lent_unchanged(const Lent *l)
 {
     for (Name k = 0; k < TABLES; k++)
-        if (!lent_same(l, k)) return 0;
+        if (!table_same(&l->table[k])) return 0;
     return memcmp(l->steps_before, l->steps, sizeof l->steps) == 0;
 }
 
@@ -140,12 +99,12 @@ void lent_restore(Lent *l, const Saved *s)
 uint32_t lent_update(Lent *l, Update u)
 {
     const Table *t = l->table;
-    lent_inside = ++lent_calls;
+    call_begin();
     uint32_t answer = radvoinis_update(
         l->n, l->limit, &l->steps[1], u.kind, u.first, u.second, bytes(l, STATUS), t[STATUS].told, bytes(l, MARKS), t[MARKS].told,
         words(l, FROM), t[FROM].told, words(l, TO), t[TO].told, words(l, SUCCESSOR), t[SUCCESSOR].told, words(l, NEWS), t[NEWS].told,
         words(l, IN_HEAD), t[IN_HEAD].told, words(l, OUT_HEAD), t[OUT_HEAD].told, words(l, QUEUE), t[QUEUE].told, words(l, VISITED),
         t[VISITED].told, words(l, IN_NEXT), t[IN_NEXT].told, words(l, OUT_NEXT), t[OUT_NEXT].told);
-    lent_inside = 0;
+    call_end();
     return answer;
 }

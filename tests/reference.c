@@ -21,6 +21,11 @@ void history_add(History *h, Update u)
     h->steps += u.kind == 'E';
 }
 
+void history_drop(History *h)
+{
+    h->steps -= h->accepted[--h->count].kind == 'E';
+}
+
 void history_end(History *h)
 {
     free(h->accepted);
@@ -148,7 +153,7 @@ static int can_live_after(History *h, size_t s, int updates, Update u)
 {
     history_add(h, u);
     int yes = reference_can_live(h, s, updates);
-    h->count--, h->steps -= u.kind == 'E';
+    history_drop(h);
     return yes;
 }
 

@@ -23,6 +23,7 @@ typedef struct {
 
 void history_start(History *h, size_t n, size_t limit);
 void history_add(History *h, Update u);
+void history_drop(History *h);    // the last update
 void history_end(History *h);
 
 // The marks and the statuses of all n states. The second form takes time in proportion to states and updates.

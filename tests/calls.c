@@ -1,0 +1,34 @@
+// The calls beside the update in plain C, over the naive definitions: what tests/faults.sh plants its faults in.
+#include "../include/radvoinis.h"
+#include "fitting.h"
+
+uint32_t radvoinis_state_status(size_t n, size_t limit, size_t steps, const uint8_t *status, size_t status_len, size_t state)
+{
+    int number = reference_lent(n, limit, steps, status_len >= n);
+    if (number) return RADVOINIS_REFUSED + (uint32_t)number;
+    if (state >= n) return RADVOINIS_REFUSED + 5;
+    return status[state];
+}
+
+size_t radvoinis_news_len(uint16_t *news, size_t news_len, size_t count)
+{
+    (void)news;
+    return count <= news_len ? count : 0;
+}
+
+uint32_t radvoinis_audit(size_t n, size_t limit, size_t steps, const uint8_t *status, size_t status_len, const uint8_t *marks,
+                         size_t marks_len, const uint16_t *from, size_t from_len, const uint16_t *to, size_t to_len,
+                         const uint16_t *successor, size_t successor_len, const uint16_t *in_head, size_t in_head_len,
+                         const uint16_t *out_head, size_t out_head_len, uint16_t *queue, size_t queue_len, uint16_t *visited,
+                         size_t visited_len, const uint16_t *in_next, size_t in_next_len, const uint16_t *out_next, size_t out_next_len)
+{
+    int by_state = status_len >= n && marks_len >= n && successor_len >= n && in_head_len >= n && out_head_len >= n && queue_len >= n &&
+                   visited_len >= n;
+    int by_step = from_len >= limit && to_len >= limit && in_next_len >= limit && out_next_len >= limit;
+    int number = reference_lent(n, limit, steps, by_state && by_step);
+    if (number) return RADVOINIS_REFUSED + (uint32_t)number;
+    Tables t = {n, steps, status, marks, from, to, successor, in_head, out_head, visited, in_next, out_next};
+    uint32_t yes = (uint32_t)fits(&t);
+    for (size_t s = 0; s < n; s++) queue[s] = (uint16_t)s, visited[s] = yes ? 0 : 1;
+    return yes;
+}

@@ -1,0 +1,646 @@
+// The table check's suite: radvoinis_audit against the definition of tables that fit (fitting.h), on the tables of runs, on damaged
+// ones, on tables written for a history, and on tables of random contents and lengths.
+#include "../include/radvoinis.h"
+#include "fitting.h"
+#include "groups.h"
+#include "lent.h"
+#include "random.h"
+#include "runs.h"
+#include "wild.h"
+#include <stdio.h>
+#include <string.h>
+
+typedef enum {
+    CHECK_ANSWER,
+    CHECK_RUN_FITS,
+    CHECK_NOTHING,
+    CHECK_KEPT,
+    CHECK_GOES_ON,
+    CHECK_WRITTEN_FITS,
+    CHECK_DEFINITION,
+    CHECKS
+} Check;
+
+static const char *const check_names[CHECKS] = {
+    "yes, no or refused, as the definition has it",
+    "tables of a run fit",
+    "nothing changed on a refusal",
+    "all but the queue kept after a yes, all but queue and visited after a no, past n and around the tables too",
+    "a run with checks in between: same answers, news and tables",
+    "tables written for a history fit",
+    "the definition is what every short history gives",
+};
+
+static unsigned long answers[2], refusals[5], still_fit, fit_no_more;
+
+static Lent lent_a, lent_b;
+
+// ---- one check
+
+enum { AUDITED = ALL_TABLES & ~(1 << NEWS) };
+
+static uint32_t audit(Lent *l)
+{
+    const Table *t = l->table;
+    call_begin();
+    uint32_t answer = radvoinis_audit(
+        l->n, l->limit, l->steps[1], bytes(l, STATUS), t[STATUS].told, bytes(l, MARKS), t[MARKS].told, words(l, FROM), t[FROM].told,
+        words(l, TO), t[TO].told, words(l, SUCCESSOR), t[SUCCESSOR].told, words(l, IN_HEAD), t[IN_HEAD].told, words(l, OUT_HEAD),
+        t[OUT_HEAD].told, words(l, QUEUE), t[QUEUE].told, words(l, VISITED), t[VISITED].told, words(l, IN_NEXT), t[IN_NEXT].told,
+        words(l, OUT_NEXT), t[OUT_NEXT].told);
+    call_end();
+    return answer;
+}
+
+static uint32_t right_answer(const Lent *l)
+{
+    int number = reference_lent(l->n, l->limit, l->steps[1], lent_enough(l, AUDITED));
+    if (number) return RADVOINIS_REFUSED + (uint32_t)number;
+    Tables t = lent_tables(l);
+    return (uint32_t)fits(&t);
+}
+
+// One check of the tables, held to the definition and to what it may write. Answers whether they fit.
+static int fit(Lent *l)
+{
+    uint32_t right = right_answer(l);
+    shown_lent = l;
+    lent_keep(l);
+    check(CHECK_ANSWER, audit(l) == right);
+    if (right > RADVOINIS_REFUSED) {
+        refusals[right - RADVOINIS_REFUSED]++;
+        check(CHECK_NOTHING, lent_unchanged(l));
+        return 0;
+    }
+    answers[right]++;
+    table_expect_free(&l->table[QUEUE], 0, l->n);
+    if (!right) table_expect_free(&l->table[VISITED], 0, l->n);
+    check(CHECK_KEPT, lent_unchanged(l));
+    return (int)right;
+}
+
+// ---- the definition against every short history, over two states and up to two steps
+
+enum { STEP_LISTS = 1 + 4 + 16, SHORT_TABLES = 64 * 25 * STEP_LISTS };
+
+static uint8_t given[SHORT_TABLES];
+
+// The tables of two states have a number: marks, statuses and step list, by their digits.
+typedef struct {
+    size_t steps;
+    uint8_t marks[2], status[2];
+    uint16_t from[2], to[2];
+} Short;
+
+static size_t short_number(const Short *x)
+{
+    size_t list = x->steps > 0 ? 1 + 2 * (size_t)x->from[0] + x->to[0] : 0;
+    if (x->steps > 1) list = 5 + 4 * (list - 1) + 2 * (size_t)x->from[1] + x->to[1];
+    return ((list * 8 + x->marks[0]) * 8 + x->marks[1]) * 25 + x->status[0] * 5u + x->status[1];
+}
+
+static void give(const History *h)
+{
+    Short x = {0};
+    reference_marks(h, x.marks);
+    reference_statuses(h, x.status);
+    for (size_t i = 0; i < h->count; i++) {
+        if (h->accepted[i].kind != 'E') continue;
+        x.from[x.steps] = (uint16_t)h->accepted[i].first, x.to[x.steps++] = (uint16_t)h->accepted[i].second;
+    }
+    given[short_number(&x)] = 1;
+}
+
+// Every legal history of up to `updates` more updates with at most two steps.
+static void give_every(History *h, int updates)
+{
+    uint8_t marks[2];
+    give(h);
+    reference_marks(h, marks);
+    for (size_t i = 0; i < updates_over(2) && updates > 0; i++) {
+        Update u = nth_update(2, i);
+        if ((marks[u.first] & CLOSED) || (u.kind == 'E' && h->steps == 2)) continue;
+        history_add(h, u);
+        give_every(h, updates - 1);
+        history_drop(h);
+    }
+}
+
+// The digits of a number, the last first.
+static size_t digit(size_t *number, size_t base)
+{
+    size_t x = *number % base;
+    *number /= base;
+    return x;
+}
+
+static void group_definition(void)
+{
+    History h = {0};
+    shown_lent = NULL;
+    history_start(&h, 2, 2);
+    give_every(&h, 6);    // two terminal marks, two steps, two closes
+    history_end(&h);
+    for (size_t i = 0; i < SHORT_TABLES; i++) {
+        size_t k = i;
+        Short x = {0};
+        x.status[1] = (uint8_t)digit(&k, 5), x.status[0] = (uint8_t)digit(&k, 5);
+        x.marks[1] = (uint8_t)digit(&k, 8), x.marks[0] = (uint8_t)digit(&k, 8);
+        if (k > 4) k -= 5, x.to[1] = (uint16_t)digit(&k, 2), x.from[1] = (uint16_t)digit(&k, 2), x.steps = 2, k++;
+        if (k > 0) k -= 1, x.to[0] = (uint16_t)digit(&k, 2), x.from[0] = (uint16_t)digit(&k, 2), x.steps += !x.steps;
+        Tables t = {.n = 2, .steps = x.steps, .marks = x.marks, .status = x.status, .from = x.from, .to = x.to};
+        check(CHECK_DEFINITION, short_number(&x) == i && fits_history(&t) == given[i]);
+    }
+}
+
+// ---- every table of one state, and of two states with lists that fit
+
+static void put(Lent *l, Name k, size_t i, size_t x) { table_set(&l->table[k], i, x); }
+
+static void group_one_state(void)
+{
+    static const size_t successors[] = {0, 1, 65535};
+    shown_history = NULL;
+    lent_size(&lent_a, 1, 1, 0);
+    for (size_t i = 0; i < 6 * 9 * 2 * 2 * 2 * 3 * 81 * 2 && !failed; i++) {
+        size_t k = i;
+        put(&lent_a, STATUS, 0, digit(&k, 6)), put(&lent_a, MARKS, 0, digit(&k, 9));
+        put(&lent_a, FROM, 0, digit(&k, 2)), put(&lent_a, TO, 0, digit(&k, 2)), lent_a.steps[1] = digit(&k, 2);
+        put(&lent_a, SUCCESSOR, 0, successors[digit(&k, 3)]);
+        put(&lent_a, IN_HEAD, 0, digit(&k, 3)), put(&lent_a, OUT_HEAD, 0, digit(&k, 3));
+        put(&lent_a, IN_NEXT, 0, digit(&k, 3)), put(&lent_a, OUT_NEXT, 0, digit(&k, 3));
+        put(&lent_a, VISITED, 0, digit(&k, 2));
+        fit(&lent_a);
+    }
+}
+
+// The lists of the steps that are listed, and no state visited.
+static void write_list(Lent *l, Name ends, Name head, Name next)
+{
+    memset(words(l, head), 0, 2 * l->n);
+    for (size_t p = 0; p < l->steps[1]; p++) {
+        size_t s = words(l, ends)[p];
+        if (s >= l->n) continue;
+        words(l, next)[p] = words(l, head)[s];
+        words(l, head)[s] = (uint16_t)(p + 1);
+    }
+}
+
+static void write_work(Lent *l)
+{
+    write_list(l, TO, IN_HEAD, IN_NEXT);
+    write_list(l, FROM, OUT_HEAD, OUT_NEXT);
+    memset(words(l, VISITED), 0, 2 * l->n);
+}
+
+// The statuses are those that are given, the rest is every choice.
+static void two_states(const uint8_t *status)
+{
+    static const size_t successors[] = {0, 1, 2, 65535};
+    for (size_t i = 0; i < 3 * 81 * 64 * 16 && !failed; i++) {
+        size_t k = i;
+        for (size_t p = 0; p < 2; p++) put(&lent_a, FROM, p, digit(&k, 3)), put(&lent_a, TO, p, digit(&k, 3));
+        lent_a.steps[1] = digit(&k, 3);
+        if (lent_a.steps[1] < 2 && (words(&lent_a, FROM)[1] || words(&lent_a, TO)[1])) continue;
+        if (lent_a.steps[1] < 1 && (words(&lent_a, FROM)[0] || words(&lent_a, TO)[0])) continue;
+        for (size_t s = 0; s < 2; s++) {
+            put(&lent_a, STATUS, s, status[s]), put(&lent_a, MARKS, s, digit(&k, 8));
+            put(&lent_a, SUCCESSOR, s, successors[digit(&k, 4)]);
+        }
+        write_work(&lent_a);
+        fit(&lent_a);
+    }
+}
+
+static void group_two_states(void)
+{
+    shown_history = NULL;
+    lent_size(&lent_a, 2, 2, 0);
+    for (size_t i = 0; i < 25 && !failed; i++) {
+        uint8_t status[2] = {(uint8_t)(i / 5), (uint8_t)(i % 5)};
+        progress(i, 25);
+        two_states(status);
+    }
+}
+
+// ---- runs: every table that an update leaves fits
+
+static void send_and_check(Run *r, Update u)
+{
+    run_update(r, u);
+    check(CHECK_RUN_FITS, fit(r->lent));
+}
+
+static Run checked = {.lent = &lent_a, .send = send_and_check};
+
+static void group_lists(void)
+{
+    every_list(&checked, 2, 2, 4, 3);
+    every_list(&checked, 2, 3, by_scale(5, 6, 7), 2);
+    every_list(&checked, 3, 2, 3, 4);
+    every_list(&checked, 3, 4, by_scale(3, 4, 5), 3);
+}
+
+// Sends to a run with checks in between, and to one without; what a check leaves free may hold anything.
+static Run alone = {.lent = &lent_b};
+static int alone_started;
+
+static void scramble_free(Lent *l)
+{
+    for (size_t s = 0; s < l->n; s++) words(l, QUEUE)[s] = (uint16_t)random_word();
+    for (size_t p = l->steps[1]; p < l->limit; p++) words(l, IN_NEXT)[p] = (uint16_t)random_word(), words(l, OUT_NEXT)[p] = (uint16_t)p;
+}
+
+static int same_entries(Name k, size_t entries)
+{
+    return memcmp(lent_a.table[k].at, lent_b.table[k].at, entries * lent_a.table[k].width) == 0;
+}
+
+static void send_to_both(Run *r, Update u)
+{
+    size_t n = r->lent->n;
+    if (!alone_started) run_start_beside(&alone, r), alone_started = 1;
+    uint32_t answer = run_update(r, u), steps = (uint32_t)r->lent->steps[1];
+    check(CHECK_GOES_ON, answer == run_update(&alone, u) && steps == lent_b.steps[1]);
+    check(CHECK_GOES_ON, answer > RADVOINIS_REFUSED || same_entries(NEWS, answer));
+    check(CHECK_GOES_ON, same_entries(STATUS, n) && same_entries(MARKS, n) && same_entries(FROM, steps) && same_entries(TO, steps));
+    for (size_t i = below(3); i > 0; i--) check(CHECK_RUN_FITS, fit(r->lent));
+    if (one_in(4)) scramble_free(r->lent);
+}
+
+static Run interrupted = {.lent = &lent_a, .send = send_to_both};
+
+static void group_interrupted(void)
+{
+    for (size_t i = 0; i < rounds(2000) && !failed; i++) {
+        progress(i, rounds(2000));
+        alone_started = 0;
+        if (i % 1000 == 0) mixed_run(&interrupted, 2048 - below(2), 8192 - below(3), 3000);
+        else if (i % 50 == 1) chain_run(&interrupted, 2 + below(200), below(3), 2 * below(4), one_in(2) ? 10 : 0);
+        else if (i % 50 == 2) graph_run(&interrupted, 2 + below(100), 1 + below(400));
+        else if (i % 50 == 3) mixed_run(&interrupted, 13 + below(one_in(4) ? 1000 : 100), 1 + below(600), 400);
+        else mixed_run(&interrupted, 1 + below(12), 1 + below(24), 10 + below(50));
+    }
+}
+
+static void group_large_runs(void)
+{
+    for (size_t i = 0; i < rounds(4) && !failed; i++) {
+        progress(i, rounds(4));
+        if (i % 4 == 0) full_list_run(&checked, one_in(2) ? 0 : 3);
+        else if (i % 4 == 1) chain_run(&checked, 2048 - below(2), below(3), 50, 500);
+        else if (i % 4 == 2) mixed_run(&checked, 2048 - below(3), 8192 - below(3), 8000);
+        else graph_run(&checked, 1500 + below(549), MOST_STEPS - below(1000));
+    }
+}
+
+// ---- every damage of one entry
+
+static void damage_entry(Lent *l, Name k, size_t i, size_t x)
+{
+    size_t was = table_get(&l->table[k], i);
+    put(l, k, i, x);
+    if (table_get(&l->table[k], i) != was) fit(l) ? still_fit++ : fit_no_more++;
+    put(l, k, i, was);
+    memset(words(l, VISITED), 0, 2 * l->n);
+}
+
+static void damage_table(Lent *l, Name k, size_t values)
+{
+    for (size_t i = 0; i < lent_needed(l, k) && !failed; i++) {
+        size_t was = table_get(&l->table[k], i), far[] = {65535, 65534, was + 256, was + 32768, (size_t)random_word()};
+        for (size_t x = 0; x < values; x++) damage_entry(l, k, i, x);
+        for (size_t x = 0; x < sizeof far / sizeof *far; x++) damage_entry(l, k, i, far[x]);
+    }
+}
+
+static void send_and_damage(Run *r, Update u)
+{
+    Lent *l = r->lent;
+    size_t all_bytes = one_in(16);
+    send_and_check(r, u);
+    for (Name k = 0; k < TABLES && !failed; k++)
+        if (k != NEWS) damage_table(l, k, k > MARKS ? (l->n > l->limit ? l->n : l->limit) + 3 : all_bytes ? 256 : 10);
+}
+
+static Run damaged = {.lent = &lent_a, .send = send_and_damage};
+
+static void group_every_damage(void)
+{
+    every_list(&damaged, 2, 3, by_scale(3, 4, 5), 2);
+    every_list(&damaged, 3, 3, by_scale(2, 3, 3), 3);
+}
+
+static void group_every_damage_later(void)
+{
+    for (size_t i = 0; i < rounds(200) && !failed; i++) {
+        progress(i, rounds(200));
+        mixed_run(&damaged, 1 + below(8), 1 + below(12), 10 + below(10));
+    }
+}
+
+// ---- random damages, of one entry or of some that belong together
+
+static size_t listed_step_out_of(const Lent *l, size_t s)
+{
+    size_t steps = l->steps[1], first = below(steps + 1);
+    for (size_t i = 0; i < steps; i++)
+        if (words(l, FROM)[(first + i) % steps] == s) return (first + i) % steps;
+    return NO_SUCCESSOR;
+}
+
+// A value that an entry of the table could have.
+static size_t likely_entry(const Lent *l, Name k, size_t i)
+{
+    if (one_in(4)) return wild_entry(l, k);
+    switch (k) {
+    case STATUS: return below(5);
+    case MARKS: return bytes(l, MARKS)[i] ^ 1u << below(3);
+    case FROM:
+    case TO: return below(l->n);
+    case SUCCESSOR: return one_in(4) ? NO_SUCCESSOR : listed_step_out_of(l, i);
+    case QUEUE: return below(l->n);
+    case VISITED: return below(2);
+    default: return below(l->steps[1] + 1);
+    }
+}
+
+static void damage(Lent *l, Name k, size_t i) { put(l, k, i, likely_entry(l, k, i)); }
+
+// A place among the needed ones, of a listed step mostly where the table has one for each step.
+static size_t some_place(const Lent *l, Name k)
+{
+    size_t needed = lent_needed(l, k);
+    return needed == l->limit && l->steps[1] > 0 && !one_in(8) ? below(l->steps[1]) : below(needed);
+}
+
+static void damage_any(Lent *l)
+{
+    Name k = (Name)below(TABLES);
+    damage(l, k, some_place(l, k));
+}
+
+// A step becomes another, or two change places, and the lists with them.
+static void damage_step(Lent *l)
+{
+    size_t p = below(l->steps[1]), q = below(l->steps[1]), from = words(l, FROM)[p], to = words(l, TO)[p];
+    if (one_in(2)) {
+        damage(l, one_in(2) ? FROM : TO, p);
+    } else {
+        put(l, FROM, p, words(l, FROM)[q]), put(l, TO, p, words(l, TO)[q]);
+        put(l, FROM, q, from), put(l, TO, q, to);
+    }
+    write_work(l);
+}
+
+// The step list is longer or shorter by one, and the lists with it.
+static void damage_length(Lent *l)
+{
+    size_t steps = l->steps[1];
+    if (steps < l->limit && one_in(2)) put(l, FROM, steps, below(l->n)), put(l, TO, steps, below(l->n)), l->steps[1]++;
+    else if (steps > 0) l->steps[1]--;
+    if (one_in(2)) write_work(l);
+}
+
+static void damage_somehow(Lent *l)
+{
+    size_t s = below(l->n), how = below(10);
+    if (how < 3) damage_any(l);
+    else if (how == 3) damage_any(l), damage_any(l);
+    else if (how == 4) damage(l, STATUS, s), damage(l, SUCCESSOR, s);
+    else if (how == 5) damage(l, MARKS, s), damage(l, STATUS, s);
+    else if (how == 6) damage(l, MARKS, s), damage(l, STATUS, s), damage(l, SUCCESSOR, s);
+    else if (how == 7) damage(l, SUCCESSOR, s), damage(l, SUCCESSOR, below(l->n));
+    else if (how == 8 && l->steps[1] > 0) damage_step(l);
+    else damage_length(l);
+}
+
+static void copy_tables(Lent *l, const Lent *from)
+{
+    l->n = from->n, l->limit = from->limit;
+    for (Name k = 0; k < TABLES; k++) {
+        lent_place(l, k, from->table[k].length, (Side)below(2));
+        memcpy(l->table[k].at, from->table[k].at, l->table[k].length * l->table[k].width);
+    }
+    memcpy(l->steps, from->steps, sizeof l->steps);
+}
+
+static void damage_copy(const Lent *l)
+{
+    copy_tables(&lent_b, l);
+    damage_somehow(&lent_b);
+    fit(&lent_b) ? still_fit++ : fit_no_more++;
+}
+
+// Of so many updates, the tables of one are damaged.
+static size_t damage_one_in;
+
+static void send_and_damage_copies(Run *r, Update u)
+{
+    run_update(r, u);
+    if (!one_in(damage_one_in)) return;
+    check(CHECK_RUN_FITS, fit(r->lent));
+    for (size_t i = 0; i < 8 && !failed; i++) damage_copy(r->lent);
+}
+
+static Run copied = {.lent = &lent_a, .send = send_and_damage_copies};
+
+static void group_damage_small(void)
+{
+    damage_one_in = 3;
+    for (size_t i = 0; i < rounds(8000) && !failed; i++) {
+        progress(i, rounds(8000));
+        if (i % 4 == 0) chain_run(&copied, 2 + below(10), below(3), 2 * below(4), one_in(2) ? 10 : 0);
+        else if (i % 4 == 1) graph_run(&copied, 2 + below(10), 1 + below(40));
+        else mixed_run(&copied, 1 + below(12), 1 + below(24), 10 + below(50));
+    }
+}
+
+static void group_damage_large(void)
+{
+    for (size_t i = 0; i < rounds(120) && !failed; i++) {
+        size_t n = i % 20 < 3 ? 2048 - below(3) : 13 + below(one_in(3) ? 1000 : 100);
+        progress(i, rounds(120));
+        damage_one_in = 1 + n / 16;
+        if (i % 3 == 0) mixed_run(&copied, n, i % 20 < 3 ? 8192 - below(3) : 1 + below(4 * n), 4 * n);
+        else if (i % 3 == 1) chain_run(&copied, n, below(3), 2 * below(30), one_in(2) ? 50 : 0);
+        else graph_run(&copied, n, 4 * n);
+    }
+}
+
+// ---- tables written for a history
+
+static void write_marks(Lent *l, const History *h) { reference_marks(h, bytes(l, MARKS)); }
+
+static void write_statuses(Lent *l, const History *h) { reference_statuses_quick(h, bytes(l, STATUS)); }
+
+static void write_steps(Lent *l, const History *h)
+{
+    size_t p = 0;
+    for (size_t i = 0; i < h->count; i++)
+        if (h->accepted[i].kind == 'E') put(l, FROM, p, h->accepted[i].first), put(l, TO, p++, h->accepted[i].second);
+    l->steps[1] = p;
+}
+
+// For each state that the table calls unknown any step by which it comes nearer to an open state: passes over the listed steps, from
+// anywhere and in either direction, until one adds nothing.
+static void write_successors(Lent *l)
+{
+    uint8_t leads[MOST_STATES];
+    size_t steps = l->steps[1];
+    memset(words(l, SUCCESSOR), 255, 2 * l->n);
+    for (size_t s = 0; s < l->n; s++) leads[s] = bytes(l, STATUS)[s] == OPEN;
+    for (int more = 1; more;) {
+        size_t first = below(steps + 1), back = one_in(2);
+        more = 0;
+        for (size_t i = 0; i < steps; i++) {
+            size_t p = (first + (back ? steps - 1 - i : i)) % steps, s = words(l, FROM)[p];
+            if (bytes(l, STATUS)[s] != UNKNOWN || leads[s] || !leads[words(l, TO)[p]]) continue;
+            leads[s] = 1, more = 1;
+            put(l, SUCCESSOR, s, p);
+        }
+    }
+}
+
+static void write_tables(Lent *l, const History *h)
+{
+    write_marks(l, h), write_statuses(l, h), write_steps(l, h);
+    write_successors(l), write_work(l);
+}
+
+// The same history but for one update, which is gone, doubled or another.
+static void neighbour(History *h, const History *of)
+{
+    size_t other = below(of->count + 1), how = below(3);
+    history_start(h, of->n, of->limit);
+    for (size_t i = 0; i < of->count; i++) {
+        Update u = of->accepted[i];
+        if (i == other && how == 1 && (u.kind != 'E' || of->steps < of->limit)) history_add(h, u);
+        if (i == other && how == 2) *(one_in(2) ? &u.first : &u.second) = below(of->n);
+        if (i != other || how > 0) history_add(h, u);
+    }
+}
+
+// Some of the tables are those of another history.
+static void mix(Lent *l, const History *other)
+{
+    size_t which = 1 + below(15);
+    if (which & 1) write_marks(l, other);
+    if (which & 2) write_statuses(l, other);
+    if (which & 4) write_steps(l, other);
+    if (which & 8) write_successors(l);
+    if (one_in(2)) write_work(l);
+}
+
+static void written_round(size_t n, size_t limit, size_t updates)
+{
+    static History one, two;
+    Lent *l = &lent_a;
+    random_history(&one, n, limit, updates, 1);
+    lent_size(l, n, limit, 4);
+    shown_history = &one;
+    for (size_t i = 0; i < 8 && !failed; i++) {
+        write_tables(l, &one);
+        check(CHECK_WRITTEN_FITS, fit(l));
+        if (one_in(3)) random_history(&two, n, limit, updates, 1);
+        else neighbour(&two, &one);
+        mix(l, &two);
+        fit(l) ? still_fit++ : fit_no_more++;
+    }
+}
+
+static void group_written(void)
+{
+    for (size_t i = 0; i < rounds(40000) && !failed; i++) {
+        progress(i, rounds(40000));
+        if (i % 2000 == 0) written_round(2048 - below(3), 8192 - below(3), 8000);
+        else if (i % 100 == 0) written_round(13 + below(200), 1 + below(800), 600);
+        else written_round(1 + below(10), 1 + below(20), below(40));
+    }
+}
+
+// ---- refusals, and tables of random contents and lengths
+
+static void hold(Lent *l) { fit(l); }
+
+static void group_refusals(void)
+{
+    static const size_t sizes[5][2] = {{1, 1}, {2, 3}, {7, 5}, {2047, 8191}, {2048, 8192}};
+    shown_history = NULL;
+    for (size_t i = 0; i < 5; i++) each_short(&lent_a, sizes[i][0], sizes[i][1], hold);
+    each_value(&lent_a, 8, 8, hold);
+    each_value(&lent_a, 2048, 8192, hold);
+}
+
+static void group_contents(void)
+{
+    shown_history = NULL;
+    for (size_t i = 0; i < rounds(300000) && !failed; i++) {
+        progress(i, rounds(300000));
+        wild_size(&lent_a, 4);
+        wild_contents(&lent_a);
+        fit(&lent_a);
+    }
+}
+
+// Fresh tables, or those of a run, a few entries overwritten; then updates and checks by turns on what comes.
+static void group_overwritten(void)
+{
+    shown_history = NULL;
+    for (size_t i = 0; i < rounds(40000) && !failed; i++) {
+        Lent *l = &lent_a;
+        progress(i, rounds(40000));
+        wild_size(l, 4);
+        lent_fresh(l);
+        for (size_t k = below(30); k > 0; k--) lent_update(l, wild_update(l));
+        wild_overwrite(l, below(4));
+        for (size_t k = 0; k < 3 && !failed; k++) fit(l), lent_update(l, wild_update(l));
+    }
+}
+
+static void group_lengths(void)
+{
+    shown_history = NULL;
+    for (size_t i = 0; i < rounds(200000) && !failed; i++) {
+        progress(i, rounds(200000));
+        if (one_in(8)) wild_told(&lent_a);
+        else wild_lengths(&lent_a);
+        one_in(4) && lent_enough(&lent_a, ALL_TABLES) ? lent_fresh(&lent_a) : wild_contents(&lent_a);
+        wild_values(&lent_a);
+        fit(&lent_a);
+    }
+}
+
+// ---- all groups
+
+static const Group groups[] = {
+    {"tables that fit: by definition and by every short history", group_definition},
+    {"every table of one state", group_one_state},
+    {"every table of two states and two steps, lists that fit", group_two_states},
+    {"after each update of every short list", group_lists},
+    {"random runs with checks in between", group_interrupted},
+    {"random runs up to 2,048 states and 8,192 steps", group_large_runs},
+    {"every damage of one entry, after every short list", group_every_damage},
+    {"every damage of one entry, random runs", group_every_damage_later},
+    {"random damages, up to 12 states", group_damage_small},
+    {"random damages, up to 2,048 states", group_damage_large},
+    {"tables written for a history, mixed with another's", group_written},
+    {"refusals: n, limit, steps and lengths", group_refusals},
+    {"tables of random contents", group_contents},
+    {"tables of a run, some entries overwritten", group_overwritten},
+    {"tables of random lengths", group_lengths},
+};
+
+static void show_counts(void)
+{
+    printf("%lu calls of update and table check; answered yes: %lu, no: %lu, refused 1: %lu, 2: %lu, 3: %lu, 4: %lu\n", calls_made,
+           answers[1], answers[0], refusals[1], refusals[2], refusals[3], refusals[4]);
+    printf("damaged tables that still fit: %lu, that fit no more: %lu\n", still_fit, fit_no_more);
+}
+
+int main(int argc, char **argv)
+{
+    static const Suite suite = {groups, sizeof groups / sizeof *groups, check_names, CHECKS, show_run, show_counts};
+    lent_make(&lent_a), lent_make(&lent_b);
+    return suite_run(&suite, argc, argv);
+}

@@ -1,0 +1,214 @@
+// Runs from fresh tables: every short list, and random explorers.
+#include "runs.h"
+#include "../include/radvoinis.h"
+#include "groups.h"
+#include "random.h"
+#include <stdio.h>
+#include <string.h>
+
+void run_start(Run *r, size_t n, size_t limit)
+{
+    lent_size(r->lent, n, limit, one_in(2) ? 0 : 8);
+    lent_fresh(r->lent);
+    history_start(&r->history, n, limit);
+    memset(r->status, 0, n);
+    memset(r->marks, 0, n);
+}
+
+void run_start_beside(Run *r, const Run *first)
+{
+    run_start(r, first->lent->n, first->lent->limit);
+    for (Name k = 0; k < TABLES; k++) lent_place(r->lent, k, first->lent->table[k].length, (Side)below(2));
+    lent_fresh(r->lent);
+}
+
+uint32_t run_update(Run *r, Update u)
+{
+    shown_lent = r->lent, shown_history = &r->history, shown_update = u;
+    uint32_t answer = lent_update(r->lent, u);
+    if (answer < RADVOINIS_REFUSED) history_add(&r->history, u);
+    return answer;
+}
+
+int same_steps(const Lent *l, const History *h)
+{
+    size_t p = 0;
+    for (size_t i = 0; i < h->count; i++) {
+        Update u = h->accepted[i];
+        if (u.kind != 'E') continue;
+        if (words(l, FROM)[p] != u.first || words(l, TO)[p] != u.second) return 0;
+        p++;
+    }
+    return p == l->steps[1];
+}
+
+static void send(Run *r, char kind, size_t first, size_t second)
+{
+    if (!failed) r->send(r, (Update){(uint8_t)kind, first, second});
+}
+
+// ---- every short list
+
+void run_save(const Run *r, SavedRun *s)
+{
+    lent_save(r->lent, &s->tables);
+    s->count = r->history.count, s->steps = r->history.steps;
+    memcpy(s->status, r->status, 4), memcpy(s->marks, r->marks, 4);
+}
+
+void run_restore(Run *r, const SavedRun *s)
+{
+    lent_restore(r->lent, &s->tables);
+    r->history.count = s->count, r->history.steps = s->steps;
+    memcpy(r->status, s->status, 4), memcpy(r->marks, s->marks, 4);
+}
+
+Update nth_update(size_t numbers, size_t i)
+{
+    size_t steps = numbers * numbers;
+    if (i < steps) return (Update){'E', i / numbers, i % numbers};
+    return (Update){i < steps + numbers ? 'T' : 'C', (i - steps) % numbers, 0};
+}
+
+size_t updates_over(size_t numbers) { return numbers * numbers + 2 * numbers; }
+
+static void every_longer_list(Run *r, size_t numbers, size_t depth, int first)
+{
+    SavedRun here;
+    if (depth == 0) return;
+    run_save(r, &here);
+    for (size_t i = 0; i < updates_over(numbers) && !failed; i++) {
+        if (first) progress(i, updates_over(numbers));
+        r->send(r, nth_update(numbers, i));
+        every_longer_list(r, numbers, depth - 1, 0);
+        run_restore(r, &here);
+    }
+}
+
+void every_list(Run *r, size_t n, size_t limit, size_t depth, size_t numbers)
+{
+    run_start(r, n, limit);
+    every_longer_list(r, numbers, depth, 1);
+}
+
+// ---- random runs
+
+size_t target(size_t n, size_t source, size_t near) { return near ? (source + 1 + below(near)) % n : below(n); }
+
+void random_history(History *h, size_t n, size_t limit, size_t updates, int legal)
+{
+    uint8_t closed[MOST_STATES] = {0};
+    size_t steps = 1 + below(8), terminals = below(3), closes = 1 + below(6), near = one_in(2) ? 1 + below(4) : 0;
+    history_start(h, n, limit);
+    for (size_t i = 0; i < updates; i++) {
+        size_t kind = below(steps + terminals + closes);
+        Update u = {kind < steps ? 'E' : kind < steps + terminals ? 'T' : 'C', below(n), 0};
+        if (u.kind == 'T' && !one_in(1 + n / 8)) u.kind = 'E';
+        if (legal && (closed[u.first] || (u.kind == 'E' && h->steps == limit))) continue;
+        if (u.kind == 'E') u.second = target(n, u.first, near);
+        closed[u.first] = u.kind == 'C';
+        history_add(h, u);
+    }
+}
+
+void mixed_run(Run *r, size_t n, size_t limit, size_t updates)
+{
+    size_t steps = 1 + below(12), terminals = one_in(2) ? below(3) : 0, closes = 1 + below(6);
+    size_t order = below(3), near = one_in(2) ? 1 + below(4) : 0, wild = one_in(2) ? 20 + below(40) : 0;
+    run_start(r, n, limit);
+    for (size_t i = 0; i < updates && !failed; i++) {
+        size_t kind = below(steps + terminals + closes);
+        Update u = {kind < steps ? 'E' : kind < steps + terminals ? 'T' : 'C', below(n), 0};
+        if (terminals && n > 64 && u.kind == 'T' && !one_in(n / 16)) u.kind = 'E';
+        if (u.kind == 'C' && order) u.first = order == 1 ? i * n / updates : n - 1 - i * n / updates;
+        u.second = target(n, u.first, near);
+        if (wild && one_in(wild)) *(one_in(2) ? &u.first : &u.second) = n + below(one_in(2) ? 3 : 70000);
+        r->send(r, u);
+    }
+}
+
+static void shuffle(size_t *order, size_t n)
+{
+    for (size_t i = n; i > 1; i--) {
+        size_t j = below(i), x = order[i - 1];
+        order[i - 1] = order[j], order[j] = x;
+    }
+}
+
+// The states rising, falling or shuffled.
+static void read_order(size_t *order, size_t n, size_t how)
+{
+    for (size_t i = 0; i < n; i++) order[i] = how == 1 ? n - 1 - i : i;
+    if (how == 2) shuffle(order, n);
+}
+
+void chain_run(Run *r, size_t n, size_t how, size_t extra, size_t skip)
+{
+    size_t order[MOST_STATES], mark = one_in(3);
+    read_order(order, n, how);
+    run_start(r, n, n + n / 2 + 2);
+    for (size_t i = 0; i < n && !failed; i++) {
+        size_t s = order[i];
+        if (!one_in(n)) send(r, 'E', s, (s + 1) % n);
+        if (extra && one_in(extra)) send(r, 'E', s, below(n));
+        if (mark && one_in(n)) send(r, 'T', s, 0);
+        if (!skip || !one_in(skip)) send(r, 'C', s, 0);
+    }
+    for (size_t i = n; i > 0 && !failed; i--)
+        if (!one_in(8)) send(r, 'C', order[i - 1], 0);
+}
+
+void graph_run(Run *r, size_t n, size_t limit)
+{
+    size_t order[MOST_STATES], degree = 1 + below(4), near = one_in(2) ? 1 + below(8) : 0, late = one_in(3), mark = one_in(3);
+    read_order(order, n, below(3));
+    run_start(r, n, limit);
+    for (size_t i = 0; i < n && !failed; i++) {
+        for (size_t k = below(degree + 1); k > 0; k--) send(r, 'E', order[i], target(n, order[i], near));
+        if (mark && one_in(n)) send(r, 'T', order[i], 0);
+        if (!late && !one_in(16)) send(r, 'C', order[i], 0);
+    }
+    for (size_t i = 0; i < n && !failed; i++) {
+        if (mark && one_in(n)) send(r, 'T', order[i], 0);
+        else send(r, 'C', order[i], 0);
+    }
+}
+
+void full_list_run(Run *r, size_t near)
+{
+    size_t order[MOST_STATES], n = MOST_STATES;
+    read_order(order, n, 2);
+    run_start(r, n, MOST_STEPS);
+    for (size_t i = 0; i < n && !failed; i++) {
+        for (size_t k = 0; k < 4; k++) send(r, 'E', order[i], target(n, order[i], near));
+        if (i % 16) send(r, 'C', order[i], 0);
+    }
+    for (size_t i = 0; i < n && !failed; i += 16) {
+        send(r, 'E', order[i], order[i + 1]);
+        send(r, i % 1024 ? 'C' : 'T', order[i], 0);
+    }
+}
+
+// ---- the run that is under way
+
+const History *shown_history;
+const Lent *shown_lent;
+Update shown_update;
+
+static void show_update(Update u)
+{
+    if (u.kind == 'E') printf(" E %zu %zu", u.first, u.second);
+    else printf(" %c %zu -", u.kind, u.first);
+}
+
+void show_run(void)
+{
+    if (!shown_lent) return;
+    printf("  n %zu, limit %zu, %zu steps, call %lu, update", shown_lent->n, shown_lent->limit, shown_lent->steps_before[1], calls_made);
+    show_update(shown_update);
+    printf("\n");
+    if (!shown_history || shown_history->count > 40) return;
+    printf("  accepted:");
+    for (size_t i = 0; i < shown_history->count; i++) show_update(shown_history->accepted[i]);
+    printf("\n");
+}

@@ -1,0 +1,66 @@
+// Runs from fresh tables: what explorers send, whatever is done with each update.
+#ifndef RUNS_H
+#define RUNS_H
+
+#include "lent.h"
+
+typedef struct Run Run;
+struct Run {
+    Lent *lent;
+    History history;
+    uint8_t status[MOST_STATES], marks[MOST_STATES];    // the reference's, where `send` keeps them
+    void (*send)(Run *r, Update u);                     // sends one update, and does what the suite does with it
+};
+
+// Fresh tables for a run; and the same for a second run with tables of the same lengths.
+void run_start(Run *r, size_t n, size_t limit);
+void run_start_beside(Run *r, const Run *first);
+
+// Sends an update and keeps the history; answers what the engine answers.
+uint32_t run_update(Run *r, Update u);
+
+// Whether the step list is that of the history.
+int same_steps(const Lent *l, const History *h);
+
+// A run over few states, to come back to.
+typedef struct {
+    Saved tables;
+    size_t count, steps;
+    uint8_t status[4], marks[4];
+} SavedRun;
+void run_save(const Run *r, SavedRun *s);
+void run_restore(Run *r, const SavedRun *s);
+
+// The nth update over these state numbers: steps, then terminal marks, then closes; and how many there are.
+Update nth_update(size_t numbers, size_t i);
+size_t updates_over(size_t numbers);
+
+// Every list of up to `depth` updates; the state numbers sent are below `numbers`, and those from n on are out of range.
+void every_list(Run *r, size_t n, size_t limit, size_t depth, size_t numbers);
+
+// Targets of steps: anywhere, or near their source.
+size_t target(size_t n, size_t source, size_t near);
+
+// A history of up to so many updates, in random proportions; a legal one has at most `limit` steps, and none is refused.
+void random_history(History *h, size_t n, size_t limit, size_t updates, int legal);
+
+// Updates in random proportions; closes at random, by rising or by falling state; now and then a state out of range.
+void mixed_run(Run *r, size_t n, size_t limit, size_t updates);
+
+// A ring or a line whose states are closed one after the other (how: rising, falling, shuffled): long chains of successors, and many
+// that break. Of `extra` states one has a further step, of `skip` one is left open at first; 0 is for none.
+void chain_run(Run *r, size_t n, size_t how, size_t extra, size_t skip);
+
+// A random graph with some steps out of each state, read state by state, or all steps first; then the last states one after the other.
+void graph_run(Run *r, size_t n, size_t limit);
+
+// As many states and steps as there can be, then one step more, and a verdict for each state.
+void full_list_run(Run *r, size_t near);
+
+// Shows the run that is under way, where a check fails.
+extern const History *shown_history;
+extern const Lent *shown_lent;
+extern Update shown_update;
+void show_run(void);
+
+#endif
