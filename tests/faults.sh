@@ -1,13 +1,13 @@
 #!/usr/bin/env bash
-# Plants faults in the calls in plain C (the engine of bench/baseline.c, and tests/calls.c over the naive definitions),
+# Plants faults in the calls in plain C (the engine of bench/baseline.c, and tests/calls.c and tests/lister.c over the naive definitions),
 # one at a time, and runs the suite that must catch them on each, shortened: it must, and each suite must pass the calls without a fault.
 # With names of suites as arguments, those faults alone. All take about twenty minutes. The last line is 'N passed, M failed'.
 set -u
-wanted=" ${*:-harness damage} "
+wanted=" ${*:-harness damage records} "
 cd "$(dirname "$0")/.." || exit 2
 dir=target/faults
 rm -rf "$dir"
-mkdir -p "$dir"/{suites,library}
+mkdir -p "$dir"/{suites,library,lister}
 flags="-std=c11 -D_GNU_SOURCE -O2 -w -Ibench -Iinclude -Itests"
 
 passed=0 failed=0
@@ -15,20 +15,22 @@ passed=0 failed=0
 # Compiles a copy that faults are planted in.
 compile() { gcc $flags -Dbaseline_update=radvoinis_update -c "$dir/$1" -o "$dir/${1%.c}.o"; }
 
-for file in harness damage groups table lent runs wild fitting reference; do
+for file in harness damage records groups table lent runs wild fitting reading program reference; do
     gcc $flags -c tests/$file.c -o "$dir/suites/$file.o" || exit 2
 done
-cp bench/baseline.c tests/{calls,fitting,reference}.c "$dir/library/"
-for file in library/{baseline,calls,fitting,reference}.c; do
+cp bench/baseline.c tests/{calls,fitting,reading,reference}.c "$dir/library/"
+cp tests/{lister,reading,reference}.c "$dir/lister/"
+for file in library/{baseline,calls,fitting,reading,reference}.c lister/{lister,reading,reference}.c; do
     compile $file || exit 2
 done
 
 # Builds the suite on the copies, and says what it closes with. The library shows its calls alone: the suite has definitions of its own.
 closing_of() { # SUITE
     ld -r "$dir"/library/*.o -o "$dir/library.o" && objcopy --wildcard --keep-global-symbol='radvoinis_*' "$dir/library.o" || return 2
-    gcc "$dir/suites/$1.o" "$dir"/suites/{groups,table,lent,runs,wild,fitting,reference}.o "$dir/library.o" \
+    gcc "$dir"/lister/*.o -o "$dir/listing" || return 2
+    gcc "$dir/suites/$1.o" "$dir"/suites/{groups,table,lent,runs,wild,fitting,reading,program,reference}.o "$dir/library.o" \
         -o "$dir/$1" || return 2
-    "$dir/$1" 1 0 2>"$dir/progress" | tail -n 1
+    LISTING=$dir/listing "$dir/$1" 1 0 2>"$dir/progress" | tail -n 1
 }
 
 tell() { # VERDICT NAME
@@ -55,6 +57,11 @@ fault() { # NAME SCRIPT [FILE] [SUITE]
 
 call_fault() { fault "$1" "$2" library/calls.c "${3:-harness}"; }
 fitting_fault() { fault "$1" "$2" library/fitting.c damage; }
+listing_fault() { fault "$1" "$2" lister/reading.c records; }
+reading_fault() { # in the status call and in the listing program
+    fault "$1: status" "$2" library/reading.c records
+    listing_fault "$1: listing" "$2"
+}
 
 # A script for the lines of one function.
 within() { echo "/^[a-z].*[ *]$1(/,/^}/ { $2; }"; }
@@ -210,6 +217,43 @@ done
 for table in from to in_next out_next; do
     call_fault "the check's $table too short by one" "$(within radvoinis_audit "s/\b${table}_len >= limit/${table}_len + 1 >= limit/")" damage
 done
+
+# records
+reading_fault "a leading zero is taken" "$(within update_of 's/    if (strlen(written)/    if (text[2] == 48 \&\& length > 5 \&\& text[3] >= 48) return (Update){text[0], first, second};\n&/')"
+reading_fault "a carriage return is taken" "$(within update_of "s/    memcpy(text, line, length);/    if (length > 1 \&\& line[length - 1] == 13) length--;\n&/")"
+reading_fault "65,536 is taken" 's/first > 65535 || second > 65535/first > 65536 || second > 65536/'
+reading_fault "65,535 is not taken" 's/first > 65535 || second > 65535/first > 65534 || second > 65534/'
+reading_fault "a line is cut at 16 bytes" "$(within update_of 's/length == 0 || length > 16) return (Update){0};/length == 0) return (Update){0}; if (length > 16) length = 13;/')"
+reading_fault "a line ends at a NUL" "$(within update_of 's/    if (strlen(written) != length || memcmp(written, line, length) != 0)/    if (strcmp(written, text) != 0)/')"
+reading_fault "blank lines are passed over" "$(within take_line 's/    Update u = /    if (length == 0) return 1;\n&/')"
+listing_fault "blank lines are not counted" "$(within reading_read 's/        at += line + 1;/&\n        if (line == 0 \&\& number > 2) number--;/')"
+reading_fault "the last line is lost without its newline" "$(within reading_read 's/        more = take_line/        if (!end) break;\n&/')"
+reading_fault "a last newline makes an empty line" "$(within reading_read 's/more && at < length/more \&\& at <= length \&\& number < 70000/')"
+reading_fault "the names line need only begin so" "$(within take_line 's/length == strlen(names)/length >= strlen(names)/; s/memcmp(line, names, length)/memcmp(line, names, strlen(names))/')"
+reading_fault "the names line is not looked at" "$(within take_line 's/if (!exact) refuse(r, number, 10, listing);/exact = 1;/')"
+listing_fault "reading goes on after 10" "$(within take_line 's/return exact;/return 1;/')"
+reading_fault "empty input is a record" "$(within reading_read 's/    if (length == 0) refuse.*//')"
+reading_fault "12 a line early" "$(within take_line 's/number == 65536/number == 65535/')"
+reading_fault "12 a line late" "$(within take_line 's/number == 65536/number == 65537/')"
+reading_fault "11 before 12" "$(within take_line 's/number == 65536/number == 65536 \&\& (length == 0 || update_of(line, length).kind)/')"
+reading_fault "a limit of 2,047 steps" "$(within reading_read 's/MOST_STATES, limit)/MOST_STATES, limit - 1)/')"
+reading_fault "a limit of 2,049 steps" "$(within reading_read 's/MOST_STATES, limit)/MOST_STATES, limit + 1)/')"
+fault "the last refusal decides" "$(within refuse 's/if (!r->refused) //')" library/reading.c records
+fault "a state of 2,048 is asked of the record" "$(within reading_answer 's/state >= MOST_STATES/state > MOST_STATES/')" library/reading.c records
+fault "states asked in sixteen bits" "$(within reading_answer 's/state >= MOST_STATES/(uint16_t)state >= MOST_STATES/; s/\[state\]/[(uint16_t)state]/')" library/reading.c records
+fault "a state out of range is tested last" "$(within reading_answer 's/^    if (state/    if (r->refused) return 16 + r->refused;\n&/')" library/reading.c records
+call_fault "the record is read past its end" "$(within radvoinis_status 's/    static Reading reading;/&\n    if (record[record_len] == 77) return 0;/')" records
+call_fault "the record is written to" "$(within radvoinis_status 's/    return reading_answer/    if (record_len > 20) ((uint8_t *)record)[13] ^= 1;\n&/')" records
+listing_fault "no header" 's/    if (listing) fprintf(listing, "line verdict number.*//'
+listing_fault "live printed dead" 's/== LIVE ? "live" : "dead"/== LIVE ? "dead" : "dead"/'
+listing_fault "news falling" "$(within print_news 's/news\[i\]/news[count - 1 - i]/g')"
+listing_fault "lines counted from 0" "$(within print_news 's/n", number, /n", number - 1, /')"
+listing_fault "unknown and live exchanged" 's/"unknown", "live"/"live", "unknown"/'
+listing_fault "the last state is not counted" "$(within print_totals 's/s < MOST_STATES/s < MOST_STATES - 1/')"
+listing_fault "no totals after 10" "$(within reading_read 's/if (listing) print_totals/if (listing \&\& r->refused != 10) print_totals/')"
+listing_fault "no totals after 12" "$(within reading_read 's/if (listing) print_totals/if (listing \&\& number < 65537) print_totals/')"
+fault "the last piece is lost" 's/    reading_read(/    if (length > 65536) length = 65536;\n&/' lister/lister.c records
+fault "a short piece is the last" 's/(got = fread(record + length, 1, room - length, stdin)) > 0/length == 0 \&\& (got = read(0, record, room)) > 0/' lister/lister.c records
 
 echo "$passed passed, $failed failed"
 [ "$failed" -eq 0 ]

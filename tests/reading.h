@@ -1,0 +1,22 @@
+// A record read and listed by the words of document 01. It knows nothing of the reader.
+#ifndef READING_H
+#define READING_H
+
+#include "reference.h"
+#include <stdio.h>
+
+// What a record gives: the accepted updates, less terminal marks that repeat one, with their marks and statuses; and the number of the
+// first refusal, or 0.
+typedef struct {
+    History history;
+    uint8_t marks[MOST_STATES], status[MOST_STATES];
+    int refused;
+} Reading;
+
+// Reads a record, and writes its listing where there is a place for it.
+void reading_read(Reading *r, size_t limit, const uint8_t *record, size_t length, FILE *listing);
+
+// What the explorer is answered for a state.
+uint8_t reading_answer(const Reading *r, uint32_t state);
+
+#endif
