@@ -2,6 +2,7 @@
 #include "../include/radvoinis.h"
 #include "fitting.h"
 #include "reading.h"
+#include "writing.h"
 #include <stdlib.h>
 #include <string.h>
 
@@ -34,6 +35,19 @@ uint32_t radvoinis_audit(size_t n, size_t limit, size_t steps, const uint8_t *st
     uint32_t yes = (uint32_t)fits(&t);
     for (size_t s = 0; s < n; s++) queue[s] = (uint16_t)s, visited[s] = yes ? 0 : 1;
     return yes;
+}
+
+uint32_t radvoinis_write(size_t n, size_t limit, size_t steps, const uint8_t *marks, size_t marks_len, const uint16_t *from,
+                         size_t from_len, const uint16_t *to, size_t to_len, uint8_t *buf, size_t buf_len, size_t *at)
+{
+    static char record[RECORD_MOST + 1];
+    int number = reference_lent(n, limit, steps, marks_len >= n && from_len >= limit && to_len >= limit);
+    if (number) return RADVOINIS_REFUSED + (uint32_t)number;
+    size_t length = writing_write(n, steps, marks, from, to, record);
+    if (*at > buf_len || buf_len - *at < length) return RADVOINIS_REFUSED + 13;
+    memcpy(buf + *at, record, length);
+    *at += length;
+    return 0;
 }
 
 // The naive reader takes its time, so a record that comes again is not read again.

@@ -3,7 +3,7 @@
 # one at a time, and runs the suite that must catch them on each, shortened: it must, and each suite must pass the calls without a fault.
 # With names of suites as arguments, those faults alone. All take about twenty minutes. The last line is 'N passed, M failed'.
 set -u
-wanted=" ${*:-harness damage records} "
+wanted=" ${*:-harness damage records buffers} "
 cd "$(dirname "$0")/.." || exit 2
 dir=target/faults
 rm -rf "$dir"
@@ -15,12 +15,12 @@ passed=0 failed=0
 # Compiles a copy that faults are planted in.
 compile() { gcc $flags -Dbaseline_update=radvoinis_update -c "$dir/$1" -o "$dir/${1%.c}.o"; }
 
-for file in harness damage records groups table lent runs wild fitting reading program reference; do
+for file in harness damage records buffers groups table lent runs wild fitting reading writing program reference; do
     gcc $flags -c tests/$file.c -o "$dir/suites/$file.o" || exit 2
 done
-cp bench/baseline.c tests/{calls,fitting,reading,reference}.c "$dir/library/"
+cp bench/baseline.c tests/{calls,fitting,reading,writing,reference}.c "$dir/library/"
 cp tests/{lister,reading,reference}.c "$dir/lister/"
-for file in library/{baseline,calls,fitting,reading,reference}.c lister/{lister,reading,reference}.c; do
+for file in library/{baseline,calls,fitting,reading,writing,reference}.c lister/{lister,reading,reference}.c; do
     compile $file || exit 2
 done
 
@@ -28,7 +28,7 @@ done
 closing_of() { # SUITE
     ld -r "$dir"/library/*.o -o "$dir/library.o" && objcopy --wildcard --keep-global-symbol='radvoinis_*' "$dir/library.o" || return 2
     gcc "$dir"/lister/*.o -o "$dir/listing" || return 2
-    gcc "$dir/suites/$1.o" "$dir"/suites/{groups,table,lent,runs,wild,fitting,reading,program,reference}.o "$dir/library.o" \
+    gcc "$dir/suites/$1.o" "$dir"/suites/{groups,table,lent,runs,wild,fitting,reading,writing,program,reference}.o "$dir/library.o" \
         -o "$dir/$1" || return 2
     LISTING=$dir/listing "$dir/$1" 1 0 2>"$dir/progress" | tail -n 1
 }
@@ -57,6 +57,7 @@ fault() { # NAME SCRIPT [FILE] [SUITE]
 
 call_fault() { fault "$1" "$2" library/calls.c "${3:-harness}"; }
 fitting_fault() { fault "$1" "$2" library/fitting.c damage; }
+writing_fault() { fault "$1" "$2" library/writing.c buffers; }
 listing_fault() { fault "$1" "$2" lister/reading.c records; }
 reading_fault() { # in the status call and in the listing program
     fault "$1: status" "$2" library/reading.c records
@@ -254,6 +255,34 @@ listing_fault "no totals after 10" "$(within reading_read 's/if (listing) print_
 listing_fault "no totals after 12" "$(within reading_read 's/if (listing) print_totals/if (listing \&\& number < 65537) print_totals/')"
 fault "the last piece is lost" 's/    reading_read(/    if (length > 65536) length = 65536;\n&/' lister/lister.c records
 fault "a short piece is the last" 's/(got = fread(record + length, 1, room - length, stdin)) > 0/length == 0 \&\& (got = read(0, record, room)) > 0/' lister/lister.c records
+
+# the writer
+writing_fault "closes before the steps" '/    for (size_t p = 0/{ h; d; }; /CLOSED, .C., record + length);/G'
+writing_fault "no names line" 's/sprintf(record, "kind from to.n")/0/'
+writing_fault "marks exchanged" 's/TERMINAL, .T./CLOSED, 84/'
+writing_fault "named states are marked" "$(within write_marked 's/marks\[s\] & mark/marks[s] >= mark/')"
+writing_fault "falling states" "$(within write_marked 's/size_t s = 0; s < n; s++/size_t s = n; s-- > 0;/')"
+writing_fault "the last state is left out" "$(within write_marked 's/s < n/s + 1 < n/')"
+writing_fault "the last step is left out" 's/p < steps/p + 1 < steps/'
+writing_fault "the ends of a step exchanged" 's/(unsigned)from\[p\], (unsigned)to\[p\]/(unsigned)to[p], (unsigned)from[p]/'
+writing_fault "ends in fifteen bits" 's/(unsigned)to\[p\]/(unsigned)to[p] % 32768/'
+writing_fault "no last newline" "$(within writing_write 's/    return length;/    return length - (steps > 0);/')"
+call_fault "an exact fit is refused" 's/buf_len - \*at < length/buf_len - *at <= length/' buffers
+call_fault "one byte short is taken" 's/buf_len - \*at < length/buf_len - *at + 1 < length/' buffers
+call_fault "a place past the end is taken" 's/\*at > buf_len || //' buffers
+call_fault "the place is not brought on" "$(within radvoinis_write 's/    \*at += length;//')" buffers
+call_fault "the place moves on a refusal" "$(within radvoinis_write 's/^    if (\*at > buf_len/    size_t was = *at; if (was \&\& buf_len \&\& was < buf_len \&\& buf_len - was < length) *at = buf_len;\n&/')" buffers
+call_fault "written from the beginning" "$(within radvoinis_write 's/memcpy(buf + \*at/memcpy(buf/')" buffers
+call_fault "a byte behind the record" "$(within radvoinis_write 's/^    \*at += length;/    if (*at + length < buf_len) buf[*at + length] = 0;\n&/')" buffers
+call_fault "a byte before the record" "$(within radvoinis_write 's/^    \*at += length;/    if (*at) buf[*at - 1] = 10;\n&/')" buffers
+call_fault "13 before 4" "$(within radvoinis_write 's/^    int number/    if (n \&\& n <= 2048 \&\& limit \&\& limit <= 8192 \&\& marks_len >= n \&\& from_len >= limit \&\& to_len >= limit \&\& *at > buf_len) return RADVOINIS_REFUSED + 13;\n&/')" buffers
+call_fault "a mark is cleared" "$(within radvoinis_write 's/^    \*at += length;/&\n    ((uint8_t *)marks)[0] \&= 7;/')" buffers
+call_fault "the writer's marks too short by one" "$(within radvoinis_write 's/marks_len >= n/marks_len + 1 >= n/')" buffers
+for table in from to; do
+    call_fault "the writer's $table too short by one" "$(within radvoinis_write "s/\b${table}_len >= limit/${table}_len + 1 >= limit/")" buffers
+done
+fault "what was written is not read: status" "$(within take_line 's/    Update u = update_of(line, length);/&\n    if (u.kind == 67 \&\& number > 4) return 1;/')" library/reading.c buffers
+fault "what was written is not read: listing" "$(within take_line 's/    Update u = update_of(line, length);/&\n    if (u.kind == 67 \&\& number > 4) return 1;/')" lister/reading.c buffers
 
 echo "$passed passed, $failed failed"
 [ "$failed" -eq 0 ]

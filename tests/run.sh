@@ -12,13 +12,13 @@ mkdir -p "$dir"
 compile() { gcc -std=c11 -D_GNU_SOURCE ${CFLAGS:--O2} -Wall -Wextra -Werror "$@"; }
 
 shared=()
-for file in groups table lent runs wild fitting reading program reference; do
+for file in groups table lent runs wild fitting reading writing program reference; do
     compile -c "tests/$file.c" -o "$dir/$file.o"
     shared+=("$dir/$file.o")
 done
 
 passed=0 failed=0
-for suite in harness damage records; do
+for suite in harness damage records buffers; do
     echo "== tests/$suite.c"
     compile "tests/$suite.c" "${shared[@]}" target/staticlib/libcapi.a -o "$dir/$suite"
     status=0

@@ -1,0 +1,13 @@
+// A record written by the words of document 01. It knows nothing of the writer.
+#ifndef WRITING_H
+#define WRITING_H
+
+#include "reference.h"
+
+// The longest record: the names line, two marks for each state, all steps with ends of five digits.
+enum { RECORD_MOST = 13 + 2 * 9 * MOST_STATES + 14 * MOST_STEPS };
+
+// Writes the record of tables with any contents; answers its length.
+size_t writing_write(size_t n, size_t steps, const uint8_t *marks, const uint16_t *from, const uint16_t *to, char *record);
+
+#endif
