@@ -235,9 +235,9 @@ static Run checked = {.lent = &lent_a, .send = send_and_check};
 
 static void group_lists(void)
 {
-    every_list(&checked, 2, 2, 4, 3);
+    every_list(&checked, 2, 2, 5, 3);
     every_list(&checked, 2, 3, by_scale(5, 6, 7), 2);
-    every_list(&checked, 3, 2, 3, 4);
+    every_list(&checked, 3, 2, 4, 4);
     every_list(&checked, 3, 4, by_scale(3, 4, 5), 3);
 }
 
