@@ -248,7 +248,7 @@ static void group_runs_large(void)
         size_t n = i % 8 == 0 ? 2048 - below(3) : 13 + below(one_in(3) ? 1000 : 100);
         progress(i, rounds(16));
         write_one_in = 4 * n;
-        if (i % 3 == 0) mixed_run(&written, n, i % 2 ? 1 + below(2048) : 8192 - below(3), 4 * n);
+        if (i % 3 == 0) mixed_run(&written, n, i % 2 ? 8192 - below(3) : 1 + below(2048), 4 * n);
         else if (i % 3 == 1) chain_run(&written, n, below(3), 2 * below(30), one_in(2) ? 50 : 0);
         else graph_run(&written, n, one_in(2) ? 2048 : 4 * n);
         if (!failed) hold_round_trip(&lent_a, 1, n < 128 ? MOST_STATES : 64);
