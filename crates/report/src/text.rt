@@ -83,14 +83,14 @@ fn put_ending(buf: &mut [u8], at: usize, word: &[u8], number: usize) -> usize
     end + 1
 }
 
-fn put_bytes_at(buf: &mut [u8], at: usize, s: &[u8]) -> usize
+pub fn put_bytes_at(buf: &mut [u8], at: usize, s: &[u8]) -> usize
     requires { ⌜ at + length (now s) ≤ length (now buf) ⌝ }
     ensures { λ r. ⌜ WroteAt at (now (s .entry)) (now (buf .entry)) (now (buf .exit)) r ⌝ }
 {
     at + put_bytes(&mut buf[at..], s)
 }
 
-fn put_number_at(buf: &mut [u8], at: usize, value: usize) -> usize
+pub fn put_number_at(buf: &mut [u8], at: usize, value: usize) -> usize
     requires { ⌜ at + length (decimal value) ≤ length (now buf) ⌝ }
     ensures { λ r. ⌜ WroteAt at (decimal value) (now (buf .entry)) (now (buf .exit)) r ⌝ }
 {

@@ -1,0 +1,3 @@
+-- The laws of the picture.
+pub mod Drawing
+pub mod Saying

@@ -1,0 +1,93 @@
+-- The picture of some tables: a Graphviz graph, as bytes. A line for each state that has a verdict, then a line for each listed step.
+-- Assumes nothing.
+use mathlib.Core.Bool.{Bool, cond}
+use mathlib.Core.List.{List, [], _∷_, _++_}
+use Prim.Native.Nat.{ℕ, zero, suc}
+use lib.Dec.{eqb}
+use lib.ListN.{getD}
+use Rattle.gid.specs.Statuses.{statusOpen, statusUnknown, statusLive, statusDead}
+use Rattle.gid.specs.Successors.{noSuccessor}
+use Rattle.record.specs.Text.{decimal}
+
+-- `digraph verdicts {`, `  rankdir=LR;` and `  node [style=filled];`, a line each.
+abbrev pub opening : List ℕ
+opening = 100 ∷ 105 ∷ 103 ∷ 114 ∷ 97 ∷ 112 ∷ 104 ∷ 32 ∷ 118 ∷ 101 ∷ 114 ∷ 100 ∷ 105 ∷ 99 ∷ 116 ∷ 115 ∷ 32 ∷ 123 ∷ 10 ∷ 32 ∷ 32 ∷ 114 ∷ 97 ∷ 110 ∷ 107 ∷ 100 ∷ 105 ∷ 114 ∷ 61 ∷ 76 ∷ 82 ∷ 59 ∷ 10 ∷ 32 ∷ 32 ∷ 110 ∷ 111 ∷ 100 ∷ 101 ∷ 32 ∷ 91 ∷ 115 ∷ 116 ∷ 121 ∷ 108 ∷ 101 ∷ 61 ∷ 102 ∷ 105 ∷ 108 ∷ 108 ∷ 101 ∷ 100 ∷ 93 ∷ 59 ∷ 10 ∷ []
+
+-- `}` and a newline.
+abbrev pub closing : List ℕ
+closing = 125 ∷ 10 ∷ []
+
+-- Two spaces.
+abbrev pub indent : List ℕ
+indent = 32 ∷ 32 ∷ []
+
+-- ` [label="`, ` -> `.
+abbrev pub labelled : List ℕ
+labelled = 32 ∷ 91 ∷ 108 ∷ 97 ∷ 98 ∷ 101 ∷ 108 ∷ 61 ∷ 34 ∷ []
+
+abbrev pub arrow : List ℕ
+arrow = 32 ∷ 45 ∷ 62 ∷ 32 ∷ []
+
+-- What stands behind the number in a state's label, up to the line's end: the verdict's word and its colour.
+-- ` open", fillcolor="#ffffff"];`
+abbrev pub openLook : List ℕ
+openLook = 32 ∷ 111 ∷ 112 ∷ 101 ∷ 110 ∷ 34 ∷ 44 ∷ 32 ∷ 102 ∷ 105 ∷ 108 ∷ 108 ∷ 99 ∷ 111 ∷ 108 ∷ 111 ∷ 114 ∷ 61 ∷ 34 ∷ 35 ∷ 102 ∷ 102 ∷ 102 ∷ 102 ∷ 102 ∷ 102 ∷ 34 ∷ 93 ∷ 59 ∷ 10 ∷ []
+
+-- ` unknown", fillcolor="#ffe08a"];`
+abbrev pub unknownLook : List ℕ
+unknownLook = 32 ∷ 117 ∷ 110 ∷ 107 ∷ 110 ∷ 111 ∷ 119 ∷ 110 ∷ 34 ∷ 44 ∷ 32 ∷ 102 ∷ 105 ∷ 108 ∷ 108 ∷ 99 ∷ 111 ∷ 108 ∷ 111 ∷ 114 ∷ 61 ∷ 34 ∷ 35 ∷ 102 ∷ 102 ∷ 101 ∷ 48 ∷ 56 ∷ 97 ∷ 34 ∷ 93 ∷ 59 ∷ 10 ∷ []
+
+-- ` live", fillcolor="#a8dba0"];`
+abbrev pub liveLook : List ℕ
+liveLook = 32 ∷ 108 ∷ 105 ∷ 118 ∷ 101 ∷ 34 ∷ 44 ∷ 32 ∷ 102 ∷ 105 ∷ 108 ∷ 108 ∷ 99 ∷ 111 ∷ 108 ∷ 111 ∷ 114 ∷ 61 ∷ 34 ∷ 35 ∷ 97 ∷ 56 ∷ 100 ∷ 98 ∷ 97 ∷ 48 ∷ 34 ∷ 93 ∷ 59 ∷ 10 ∷ []
+
+-- ` dead", fillcolor="#f0a8a0"];`
+abbrev pub deadLook : List ℕ
+deadLook = 32 ∷ 100 ∷ 101 ∷ 97 ∷ 100 ∷ 34 ∷ 44 ∷ 32 ∷ 102 ∷ 105 ∷ 108 ∷ 108 ∷ 99 ∷ 111 ∷ 108 ∷ 111 ∷ 114 ∷ 61 ∷ 34 ∷ 35 ∷ 102 ∷ 48 ∷ 97 ∷ 56 ∷ 97 ∷ 48 ∷ 34 ∷ 93 ∷ 59 ∷ 10 ∷ []
+
+-- The end of a step's line: ` [style=bold];`, `;`.
+abbrev pub boldEnd : List ℕ
+boldEnd = 32 ∷ 91 ∷ 115 ∷ 116 ∷ 121 ∷ 108 ∷ 101 ∷ 61 ∷ 98 ∷ 111 ∷ 108 ∷ 100 ∷ 93 ∷ 59 ∷ 10 ∷ []
+
+abbrev pub plainEnd : List ℕ
+plainEnd = 59 ∷ 10 ∷ []
+
+-- A line with two numbers.
+unfoldable pub line : ℕ → List ℕ → ℕ → List ℕ → List ℕ
+line a middle b ending = indent ++ decimal a ++ middle ++ decimal b ++ ending
+
+-- A state's line: `  3 [label="3 open", fillcolor="#ffffff"];`.
+abbrev pub node : ℕ → List ℕ → List ℕ
+node s look = line s labelled s look
+
+-- The line of a state with status k. An unseen state has none, nor has one whose byte is no status.
+abbrev pub stateText : ℕ → ℕ → List ℕ
+stateText k s =
+    cond (eqb k statusOpen) (node s openLook)
+    (cond (eqb k statusUnknown) (node s unknownLook) (cond (eqb k statusLive) (node s liveLook) (cond (eqb k statusDead) (node s deadLook) [])))
+
+-- The first n states, by rising state.
+unfoldable pub statesText : ℕ → (ℕ → ℕ) → List ℕ
+statesText zero status = []
+statesText (suc s) status = statesText s status ++ stateText (status s) s
+
+-- A step's line: `  0 -> 1 [style=bold];` or `  1 -> 0;`.
+abbrev pub stepText : ℕ → ℕ → Bool → List ℕ
+stepText from to bold = line from arrow to (cond bold boldEnd plainEnd)
+
+-- The first m steps, in list order. A step is bold where it is its source's successor.
+unfoldable pub stepsText : ℕ → (from to successor : ℕ → ℕ) → List ℕ
+stepsText zero from to successor = []
+stepsText (suc p) from to successor = stepsText p from to successor ++ stepText (from p) (to p) (eqb (successor (from p)) p)
+
+-- The picture of 2,048 states and m steps.
+unfoldable pub drawing : ℕ → (status from to successor : ℕ → ℕ) → List ℕ
+drawing m status from to successor = opening ++ statesText 2048 status ++ stepsText m from to successor ++ closing
+
+-- Read from tables, with any contents. A state past the end of its table is unseen, and has no successor.
+abbrev pub picture : ℕ → (status from to successor : List ℕ) → List ℕ
+picture m status from to successor = drawing m (λ s. getD status s 0) (λ p. getD from p 0) (λ p. getD to p 0) (λ s. getD successor s noSuccessor)
+
+-- The room that a picture of at most 8,192 steps may take.
+abbrev pub pictureRoom : ℕ
+pictureRoom = 393216
