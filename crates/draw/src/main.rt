@@ -1,5 +1,4 @@
 // The drawing program: reads a record on standard input in large pieces, and writes the picture of where it ends to standard output.
-ghost use mathlib.Core.Path.{_≡_};
 ghost use Prim.Native.Nat.{_≤_};
 ghost use lib.ListN.{length};
 ghost use Rattle.engine.specs.Done.{tablesOf};
@@ -8,6 +7,7 @@ ghost use Rattle.picture.specs.Reading.{Stands};
 use engine::Engine;
 use libc::STDIN_FILENO;
 use libc::STDOUT_FILENO;
+use picture::PICTURE_ROOM;
 use reader::Opened;
 use reader::Reader;
 use record::Splitter;
@@ -29,7 +29,7 @@ fn main() {
     let mut in_next = [0u16; 2048];
     let mut out_next = [0u16; 2048];
     let mut input = [0u8; 65536];
-    let mut output = [0u8; 393216];
+    let mut output = [0u8; PICTURE_ROOM];
     draw_record(
         &mut input,
         &mut output,
@@ -48,7 +48,7 @@ fn main() {
     );
 }
 
-// Opens the tables and draws the record.
+// Opens the tables, and draws.
 fn draw_record(
     input: &mut [u8],
     output: &mut [u8],
@@ -67,7 +67,7 @@ fn draw_record(
 )
     requires { ⌜ pictureRoom ≤ length (now output) ⌝ }
 {
-    match reader::open(
+    let opened = reader::open(
         LIMIT,
         status,
         marks,
@@ -81,7 +81,8 @@ fn draw_record(
         visited,
         in_next,
         out_next,
-    ) {
+    );
+    match opened {
         Opened::Ready(engine) => draw_input(
             engine,
             input,
@@ -134,7 +135,7 @@ fn draw_input(
             break;
         }
         let n = io::count(got, input);
-        reader = read_piece(
+        let after = picture::read_part(
             reader,
             &input[..n],
             status,
@@ -150,11 +151,13 @@ fn draw_input(
             in_next,
             out_next,
         );
+        reader = after;
         pieces -= 1;
     }
-    draw_end(
+    let end = picture::draw_end(
         reader,
         output,
+        0,
         status,
         marks,
         from,
@@ -168,90 +171,5 @@ fn draw_input(
         in_next,
         out_next,
     );
-}
-
-// Reads the lines of a piece of the input.
-fn read_piece(
-    reader: Reader,
-    piece: &[u8],
-    status: &mut [u8],
-    marks: &mut [u8],
-    from: &mut [u16],
-    to: &mut [u16],
-    successor: &mut [u16],
-    news: &mut [u16],
-    in_head: &mut [u16],
-    out_head: &mut [u16],
-    queue: &mut [u16],
-    visited: &mut [u16],
-    in_next: &mut [u16],
-    out_next: &mut [u16],
-) -> Reader
-    requires { ⌜ Stands (reader .engine .graph) (tablesOf (now status) (now marks) (now from) (now to) (now successor) (now news) (now «in_head») (now «out_head») (now queue) (now visited) (now «in_next») (now «out_next»)) ⌝ }
-    ensures { λ r. ⌜ Stands (r .engine .graph) (tablesOf (now (status .exit)) (now (marks .exit)) (now (from .exit)) (now (to .exit)) (now (successor .exit)) (now (news .exit)) (now («in_head» .exit)) (now («out_head» .exit)) (now (queue .exit)) (now (visited .exit)) (now («in_next» .exit)) (now («out_next» .exit))) ⌝ }
-{
-    let mut current = reader;
-    let mut next = 0;
-    while next < piece.len() {
-        let turn = current.turn(
-            piece,
-            next,
-            status,
-            marks,
-            from,
-            to,
-            successor,
-            news,
-            in_head,
-            out_head,
-            queue,
-            visited,
-            in_next,
-            out_next,
-        );
-        let after = turn.reader;
-        current = after;
-        next = turn.next;
-    }
-    current
-}
-
-// The end of the record, whose last line may lack a newline, and its picture.
-fn draw_end(
-    reader: Reader,
-    output: &mut [u8],
-    status: &mut [u8],
-    marks: &mut [u8],
-    from: &mut [u16],
-    to: &mut [u16],
-    successor: &mut [u16],
-    news: &mut [u16],
-    in_head: &mut [u16],
-    out_head: &mut [u16],
-    queue: &mut [u16],
-    visited: &mut [u16],
-    in_next: &mut [u16],
-    out_next: &mut [u16],
-)
-    requires { ⌜ (pictureRoom ≤ length (now output)) × Stands (reader .engine .graph) (tablesOf (now status) (now marks) (now from) (now to) (now successor) (now news) (now «in_head») (now «out_head») (now queue) (now visited) (now «in_next») (now «out_next»)) ⌝ }
-{
-    let applied = reader.finish(
-        status,
-        marks,
-        from,
-        to,
-        successor,
-        news,
-        in_head,
-        out_head,
-        queue,
-        visited,
-        in_next,
-        out_next,
-    );
-    let engine = applied.engine;
-    let graph = engine.graph;
-    let m = graph.steps;
-    let end = picture::put_picture(output, 0, m, status, from, to, successor);
     io::write_all(STDOUT_FILENO, &output[..end]);
 }

@@ -1,3 +1,4 @@
 -- The laws of the picture.
 pub mod Drawing
 pub mod Saying
+pub mod Session

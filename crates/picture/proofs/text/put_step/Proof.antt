@@ -2,8 +2,8 @@
 -- Assumes nothing.
 use native.Mathlib.Omega.{arith}
 use borrow.Author.Needs.{needs}
-use Rattle.picture.proofs.put_step.Statement.{statement}
-use Rattle.picture.proofs.put_step.Tie as tie
+use Rattle.picture.proofs.text.put_step.Statement.{statement}
+use Rattle.picture.proofs.text.put_step.Tie as tie
 
 slice-aggregate-put-line : tie.Need-slice-aggregate-put-line
 slice-aggregate-put-line c = search needs

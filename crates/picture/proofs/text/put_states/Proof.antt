@@ -7,8 +7,8 @@ use lib.ListN.{length, getD}
 use Rattle.record.specs.Text.{WroteAt}
 use Rattle.picture.specs.Picture.{statesText}
 use Rattle.picture.proofs.Drawing.{no-states, states-on}
-use Rattle.picture.proofs.put_states.Statement.{statement}
-use Rattle.picture.proofs.put_states.Tie as tie
+use Rattle.picture.proofs.text.put_states.Statement.{statement}
+use Rattle.picture.proofs.text.put_states.Tie as tie
 
 abbrev Inv-loop : tie.InvT-loop
 Inv-loop buf₀ at status end₀ s₀ buf end s =

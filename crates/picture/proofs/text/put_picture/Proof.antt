@@ -6,8 +6,8 @@ use mathlib.Core.Path.{_∙_}
 use lib.ListN.{getD}
 use borrow.Author.Needs.{needs}
 use Rattle.picture.proofs.Drawing.{drawn}
-use Rattle.picture.proofs.put_picture.Statement.{statement}
-use Rattle.picture.proofs.put_picture.Tie as tie
+use Rattle.picture.proofs.text.put_picture.Statement.{statement}
+use Rattle.picture.proofs.text.put_picture.Tie as tie
 
 slice-aggregate-put-bytes-at : tie.Need-slice-aggregate-put-bytes-at
 slice-aggregate-put-bytes-at c = search needs

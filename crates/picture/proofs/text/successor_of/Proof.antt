@@ -4,8 +4,8 @@ use lib.ListN.{List·getD-eq-default}
 use mathlib.Core.Path.{sym}
 use borrow.Author.Needs.{needs}
 use Rattle.picture.proofs.Drawing.{read-same}
-use Rattle.picture.proofs.successor_of.Statement.{statement}
-use Rattle.picture.proofs.successor_of.Tie as tie
+use Rattle.picture.proofs.text.successor_of.Statement.{statement}
+use Rattle.picture.proofs.text.successor_of.Tie as tie
 
 mul-result : tie.Need-mul-result
 mul-result c = search needs

@@ -4,8 +4,8 @@ use native.Mathlib.Omega.{arith}
 use borrow.Author.Tests.{ne-eqb}
 use Rattle.report.proofs.Placing.{placed-none}
 use borrow.Author.Needs.{needs}
-use Rattle.picture.proofs.put_state.Statement.{statement}
-use Rattle.picture.proofs.put_state.Tie as tie
+use Rattle.picture.proofs.text.put_state.Statement.{statement}
+use Rattle.picture.proofs.text.put_state.Tie as tie
 
 slice-aggregate-put-node : tie.Need-slice-aggregate-put-node
 slice-aggregate-put-node c = search needs

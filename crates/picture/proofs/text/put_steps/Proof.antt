@@ -8,8 +8,8 @@ use lib.ListN.{length, getD}
 use Rattle.record.specs.Text.{WroteAt}
 use Rattle.picture.specs.Picture.{stepsText}
 use Rattle.picture.proofs.Drawing.{no-steps, steps-on}
-use Rattle.picture.proofs.put_steps.Statement.{statement}
-use Rattle.picture.proofs.put_steps.Tie as tie
+use Rattle.picture.proofs.text.put_steps.Statement.{statement}
+use Rattle.picture.proofs.text.put_steps.Tie as tie
 
 abbrev Inv-loop : tie.InvT-loop
 Inv-loop buf₀ at m from to successor end₀ p₀ buf end p =

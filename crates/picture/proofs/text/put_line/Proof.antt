@@ -4,8 +4,8 @@ use native.Mathlib.Omega.{arith}
 use borrow.Author.Needs.{needs}
 use Rattle.record.proofs.Decimals.{five-digits}
 use Rattle.picture.proofs.Drawing.{line-placed}
-use Rattle.picture.proofs.put_line.Statement.{statement}
-use Rattle.picture.proofs.put_line.Tie as tie
+use Rattle.picture.proofs.text.put_line.Statement.{statement}
+use Rattle.picture.proofs.text.put_line.Tie as tie
 
 slice-aggregate-put-bytes-at : tie.Need-slice-aggregate-put-bytes-at
 slice-aggregate-put-bytes-at c = search needs

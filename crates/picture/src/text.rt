@@ -1,0 +1,130 @@
+// The picture of some tables: a Graphviz graph with a line for each state that has a verdict and for each listed step, written at a place of a lent buffer. Each call returns the place after what it wrote.
+ghost use mathlib.Core.Path.{_≡_};
+ghost use mathlib.Core.Bool.{Bool};
+ghost use Prim.Native.Nat.{ℕ, _≤_, _<_, _+_, _*_};
+ghost use lib.ListN.{length, getD};
+ghost use Rattle.record.specs.Text.{WroteAt};
+ghost use Rattle.picture.specs.Picture.{line, node, stateText, statesText, stepText, stepsText, picture, pictureRoom};
+use report::put_bytes_at;
+use report::put_number_at;
+use report::status_of;
+use tables::MAX_STATES;
+use tables::NO_SUCCESSOR;
+
+// The room that is to be left in the buffer for a picture.
+pub const PICTURE_ROOM: usize = 393216;
+
+// The whole picture, of tables with any contents.
+pub fn put_picture(
+    buf: &mut [u8],
+    at: usize,
+    m: usize,
+    status: &[u8],
+    from: &[u16],
+    to: &[u16],
+    successor: &[u16],
+) -> usize
+    requires { ⌜ (m ≤ 8192) × (m ≤ length (now from)) × (m ≤ length (now to)) × (at + pictureRoom ≤ length (now buf)) ⌝ }
+    ensures { λ r. ⌜ WroteAt at (picture m (now (status .entry)) (now (from .entry)) (now (to .entry)) (now (successor .entry))) (now (buf .entry)) (now (buf .exit)) r × (r ≤ at + pictureRoom) ⌝ }
+{
+    let states = put_bytes_at(
+        buf,
+        at,
+        b"digraph verdicts {\n  rankdir=LR;\n  node [style=filled];\n",
+    );
+    let steps = put_states(buf, states, status);
+    let end = put_steps(buf, steps, m, from, to, successor);
+    put_bytes_at(buf, end, b"}\n")
+}
+
+// By rising state.
+fn put_states(buf: &mut [u8], at: usize, status: &[u8]) -> usize
+    requires { ⌜ at + 110592 ≤ length (now buf) ⌝ }
+    ensures { λ r. ⌜ WroteAt at (statesText 2048 (λ s. getD (now (status .entry)) s 0)) (now (buf .entry)) (now (buf .exit)) r × (r ≤ at + 110592) ⌝ }
+{
+    let mut end = at;
+    let mut s = 0;
+    while s < MAX_STATES {
+        end = put_state(buf, end, s, status_of(status, s));
+        s += 1;
+    }
+    end
+}
+
+// A state's line, where it has one.
+fn put_state(buf: &mut [u8], at: usize, state: usize, status: u8) -> usize
+    requires { ⌜ (state < 100000) × (at + 54 ≤ length (now buf)) ⌝ }
+    ensures { λ r. ⌜ WroteAt at (stateText status state) (now (buf .entry)) (now (buf .exit)) r × (r ≤ at + 54) ⌝ }
+{
+    match status {
+        1 => put_node(buf, at, state, b" open\", fillcolor=\"#ffffff\"];\n"),
+        2 => put_node(buf, at, state, b" unknown\", fillcolor=\"#ffe08a\"];\n"),
+        3 => put_node(buf, at, state, b" live\", fillcolor=\"#a8dba0\"];\n"),
+        4 => put_node(buf, at, state, b" dead\", fillcolor=\"#f0a8a0\"];\n"),
+        _ => at,
+    }
+}
+
+// A state's line, with what stands behind the number in its label.
+fn put_node(buf: &mut [u8], at: usize, state: usize, look: &[u8]) -> usize
+    requires { ⌜ (state < 100000) × (at + (length (now look) + 21) ≤ length (now buf)) ⌝ }
+    ensures { λ r. ⌜ WroteAt at (node state (now (look .entry))) (now (buf .entry)) (now (buf .exit)) r × (r ≤ at + (length (now (look .entry)) + 21)) ⌝ }
+{
+    put_line(buf, at, state, b" [label=\"", state, look)
+}
+
+// In list order.
+fn put_steps(
+    buf: &mut [u8],
+    at: usize,
+    m: usize,
+    from: &[u16],
+    to: &[u16],
+    successor: &[u16],
+) -> usize
+    requires { ⌜ (m ≤ length (now from)) × (m ≤ length (now to)) × (at + 31 * m ≤ length (now buf)) ⌝ }
+    ensures { λ r. ⌜ WroteAt at (stepsText m (λ p. getD (now (from .entry)) p 0) (λ p. getD (now (to .entry)) p 0) (λ s. getD (now (successor .entry)) s 65535)) (now (buf .entry)) (now (buf .exit)) r × (r ≤ at + 31 * m) ⌝ }
+{
+    let mut end = at;
+    let mut p = 0;
+    while p < m {
+        let source = from[p] as usize;
+        let target = to[p] as usize;
+        let bold = successor_of(successor, source) as usize == p;
+        end = put_step(buf, end, source, target, bold);
+        p += 1;
+    }
+    end
+}
+
+fn put_step(buf: &mut [u8], at: usize, from: usize, to: usize, bold: bool) -> usize
+    requires { ⌜ (from < 100000) × (to < 100000) × (at + 31 ≤ length (now buf)) ⌝ }
+    ensures { λ r. ⌜ WroteAt at (stepText from to bold) (now (buf .entry)) (now (buf .exit)) r × (r ≤ at + 31) ⌝ }
+{
+    if bold {
+        return put_line(buf, at, from, b" -> ", to, b" [style=bold];\n");
+    }
+    put_line(buf, at, from, b" -> ", to, b";\n")
+}
+
+// A line with two numbers.
+fn put_line(buf: &mut [u8], at: usize, a: usize, middle: &[u8], b: usize, ending: &[u8]) -> usize
+    requires { ⌜ (a < 100000) × (b < 100000) × (at + (length (now middle) + length (now ending) + 12) ≤ length (now buf)) ⌝ }
+    ensures { λ r. ⌜ WroteAt at (line a (now (middle .entry)) b (now (ending .entry))) (now (buf .entry)) (now (buf .exit)) r × (r ≤ at + (length (now (middle .entry)) + length (now (ending .entry)) + 12)) ⌝ }
+{
+    let first = put_bytes_at(buf, at, b"  ");
+    let between = put_number_at(buf, first, a);
+    let second = put_bytes_at(buf, between, middle);
+    let last = put_number_at(buf, second, b);
+    put_bytes_at(buf, last, ending)
+}
+
+// A state's successor entry, 65,535 past the table's end.
+fn successor_of(successor: &[u16], s: usize) -> u16
+    ensures { λ r. ⌜ r ≡ getD (now (successor .entry)) s 65535 ⌝ }
+{
+    if s < successor.len() {
+        return successor[s];
+    }
+    NO_SUCCESSOR
+}
