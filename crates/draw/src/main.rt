@@ -82,26 +82,26 @@ fn draw_record(
         in_next,
         out_next,
     );
-    match opened {
-        Opened::Ready(engine) => draw_input(
-            engine,
-            input,
-            output,
-            status,
-            marks,
-            from,
-            to,
-            successor,
-            news,
-            in_head,
-            out_head,
-            queue,
-            visited,
-            in_next,
-            out_next,
-        ),
-        Opened::Refused(_) => {}
-    }
+    let Opened::Ready(engine) = opened else {
+        return;
+    };
+    draw_input(
+        engine,
+        input,
+        output,
+        status,
+        marks,
+        from,
+        to,
+        successor,
+        news,
+        in_head,
+        out_head,
+        queue,
+        visited,
+        in_next,
+        out_next,
+    );
 }
 
 // Nothing says that an input ends, so the pieces are counted down, from a number that no run uses up.

@@ -88,6 +88,6 @@ drawing m status from to successor = opening ++ statesText 2048 status ++ stepsT
 abbrev pub picture : ℕ → (status from to successor : List ℕ) → List ℕ
 picture m status from to successor = drawing m (λ s. getD status s 0) (λ p. getD from p 0) (λ p. getD to p 0) (λ s. getD successor s noSuccessor)
 
--- The room that a picture of at most 8,192 steps may take.
+-- The room that a picture may take: 64 bytes for each of 2,048 states and 32 for each of 8,192 steps.
 abbrev pub pictureRoom : ℕ
 pictureRoom = 393216

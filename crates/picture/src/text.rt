@@ -1,8 +1,8 @@
 // The picture of some tables: a Graphviz graph with a line for each state that has a verdict and for each listed step, written at a place of a lent buffer. Each call returns the place after what it wrote.
 ghost use mathlib.Core.Path.{_≡_};
-ghost use mathlib.Core.Bool.{Bool};
 ghost use Prim.Native.Nat.{ℕ, _≤_, _<_, _+_, _*_};
 ghost use lib.ListN.{length, getD};
+ghost use Rattle.gid.specs.Successors.{noSuccessor};
 ghost use Rattle.record.specs.Text.{WroteAt};
 ghost use Rattle.picture.specs.Picture.{line, node, stateText, statesText, stepText, stepsText, picture, pictureRoom};
 use report::put_bytes_at;
@@ -37,10 +37,10 @@ pub fn put_picture(
     put_bytes_at(buf, end, b"}\n")
 }
 
-// By rising state.
+// The lines of the states, by rising state.
 fn put_states(buf: &mut [u8], at: usize, status: &[u8]) -> usize
-    requires { ⌜ at + 110592 ≤ length (now buf) ⌝ }
-    ensures { λ r. ⌜ WroteAt at (statesText 2048 (λ s. getD (now (status .entry)) s 0)) (now (buf .entry)) (now (buf .exit)) r × (r ≤ at + 110592) ⌝ }
+    requires { ⌜ at + 54 * 2048 ≤ length (now buf) ⌝ }
+    ensures { λ r. ⌜ WroteAt at (statesText 2048 (λ s. getD (now (status .entry)) s 0)) (now (buf .entry)) (now (buf .exit)) r × (r ≤ at + 54 * 2048) ⌝ }
 {
     let mut end = at;
     let mut s = 0;
@@ -73,7 +73,7 @@ fn put_node(buf: &mut [u8], at: usize, state: usize, look: &[u8]) -> usize
     put_line(buf, at, state, b" [label=\"", state, look)
 }
 
-// In list order.
+// The lines of the first m steps, in list order.
 fn put_steps(
     buf: &mut [u8],
     at: usize,
@@ -83,7 +83,7 @@ fn put_steps(
     successor: &[u16],
 ) -> usize
     requires { ⌜ (m ≤ length (now from)) × (m ≤ length (now to)) × (at + 31 * m ≤ length (now buf)) ⌝ }
-    ensures { λ r. ⌜ WroteAt at (stepsText m (λ p. getD (now (from .entry)) p 0) (λ p. getD (now (to .entry)) p 0) (λ s. getD (now (successor .entry)) s 65535)) (now (buf .entry)) (now (buf .exit)) r × (r ≤ at + 31 * m) ⌝ }
+    ensures { λ r. ⌜ WroteAt at (stepsText m (λ p. getD (now (from .entry)) p 0) (λ p. getD (now (to .entry)) p 0) (λ s. getD (now (successor .entry)) s noSuccessor)) (now (buf .entry)) (now (buf .exit)) r × (r ≤ at + 31 * m) ⌝ }
 {
     let mut end = at;
     let mut p = 0;
@@ -121,7 +121,7 @@ fn put_line(buf: &mut [u8], at: usize, a: usize, middle: &[u8], b: usize, ending
 
 // A state's successor entry, 65,535 past the table's end.
 fn successor_of(successor: &[u16], s: usize) -> u16
-    ensures { λ r. ⌜ r ≡ getD (now (successor .entry)) s 65535 ⌝ }
+    ensures { λ r. ⌜ r ≡ getD (now (successor .entry)) s noSuccessor ⌝ }
 {
     if s < successor.len() {
         return successor[s];

@@ -26,12 +26,6 @@ module _ {limit : ℕ} {t t′ : Tables} where
   opens-refused {k = k} (refuses {k = j} e n x) q = let z : j ≡ k = cc in (e ∙ z, λ y. n (z ∙ y))
   opens-refused (readies e x) q = absurd (let z : _≡_ {A = ℕ} 0 1 = cc in omega arith)
 
-  pub opens-ready : {r : Opened} {e : Engine} → Opens limit t t′ r → r ≡ Ready e → (openNumber limit t ≡ 0) × Standing limit [] (e .graph) t′
-  opens-ready (refuses e n x) q = absurd (let z : _≡_ {A = ℕ} 0 1 = cc in omega arith)
-  opens-ready {e = e} (readies z x) q =
-      let y : e ≡ record { graph = readerGraph limit } = cc in
-      (z, rw (y, x) (opened-stands limit t z))
-
 abbrev FirstLong : List Needed → Type 0
 FirstLong [] = Unit {0}
 FirstLong (x ∷ l) = x .need ≤ x .have

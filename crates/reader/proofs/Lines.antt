@@ -14,6 +14,7 @@ use Rattle.gid.specs.Outcomes.{Outcome, refused, accepted, given, outcome, afte
 use Rattle.tables.specs.declared.Graph.{Graph}
 use Rattle.tables.specs.declared.lengths.Lengths.{Lengths}
 use Rattle.tables.specs.Tables.{Tables, enough, needs, lengths}
+use Rattle.engine.specs.declared.Engine.{Engine}
 use Rattle.engine.specs.declared.Answer.{Answer as Answered}
 use Rattle.engine.specs.declared.Answer.the-variants.{Accepted, Refused}
 use Rattle.engine.specs.Promise.{Promise}
@@ -25,7 +26,9 @@ use Rattle.record.specs.declared.splitter.Answer.the-variants.{Nothing, Update 
 use Rattle.record.specs.Items.{placeOf}
 use Rattle.reader.specs.declared.Outcome.{Outcome as Came′}
 use Rattle.reader.specs.declared.Outcome.the-variants.{Nothing as None, Accepted as Took, Refused as Turned}
-use Rattle.reader.specs.Opening.{readerGraph, openNumber, freshened}
+use Rattle.reader.specs.declared.Opened.{Opened}
+use Rattle.reader.specs.declared.Opened.the-variants.{Ready}
+use Rattle.reader.specs.Opening.{Opens, refuses, readies, readerGraph, openNumber, freshened}
 use Rattle.reader.specs.Turning.{Came, nothing, took, turned, malformed, badNames, tooMany}
 use Rattle.reader.specs.Replaying.{outcomeOf, afterItem, sends}
 use Rattle.reader.specs.Standing.{Standing}
@@ -49,6 +52,13 @@ opened-stands limit t e =
       room = omega arith;
       long = subst (λ (l : Lengths). enough (needs 2048 limit l) ≡ true) (sym (opened-lengths limit t e)) (opened-long limit t e);
     }
+
+-- Where the call that opens says ready, they do.
+pub opens-ready : {limit : ℕ} {t t′ : Tables} {r : Opened} {e : Engine} → Opens limit t t′ r → r ≡ Ready e → (openNumber limit t ≡ 0) × Standing limit [] (e .graph) t′
+opens-ready (refuses e n x) q = absurd (let z : _≡_ {A = ℕ} 0 1 = cc in omega arith)
+opens-ready {limit} {t} {e = e} (readies z x) q =
+    let y : e ≡ record { graph = readerGraph limit } = cc in
+    (z, rw (y, x) (opened-stands limit t z))
 
 taken : {news : List ℕ} {k : ℕ} {o : Outcome} (line : ℕ) → Answers news (Accepted k) o → Tells news line (Took line k) o
 taken line (yes-news q) = line-taken q

@@ -6,7 +6,8 @@ use Rattle.tables.specs.Tables.{enough, needs as needed, lengths}
 use Rattle.engine.specs.Done.{tablesOf}
 use Rattle.reader.specs.Opening.{readerGraph}
 use Rattle.query.proofs.Numbers.{lent-few}
-use Rattle.query.proofs.Starting.{opens-refused, opens-ready}
+use Rattle.reader.proofs.Lines.{opens-ready}
+use Rattle.query.proofs.Starting.{opens-refused}
 use Rattle.query.proofs.Turns.{answer-range, answer-lent, answer-read}
 use borrow.Author.Needs.{needs}
 use Rattle.query.proofs.status_after.Statement.{statement}
