@@ -1,22 +1,20 @@
 -- What is drawn from a reader's tables is the picture of the accepted history.
 -- Assumes nothing.
 use mathlib.Core.Path.{_≡_, refl, sym, _∙_, ap, subst}
-use mathlib.Core.Bool.{Bool, true, false, _&&_, false≢true}
-use mathlib.Core.List.{List, [], _∷_, _++_}
-use Prim.Native.Nat.{ℕ, zero, suc, _+_, _≤_, _<_}
+use mathlib.Core.List.{List}
+use Prim.Native.Nat.{ℕ, zero, suc, _<_}
 use native.Mathlib.Omega.{arith}
-use lib.Dec.{eqb, leb}
-use lib.ListN.{length, getD, take}
+use lib.ListN.{getD}
 use lib.Seq.{getD-take}
-use borrow.Author.Tests.{leb-true}
 use Rattle.gid.specs.Histories.{History}
 use Rattle.gid.specs.Statuses.{status, statusOpen, statusUnknown}
 use Rattle.gid.specs.Successors.{noSuccessor, Chain, ends, follows, Having, SuccessorRule}
 use Rattle.tables.specs.declared.Graph.{Graph}
-use Rattle.tables.specs.Tables.{Tables, Needed, enough, needs, lengths}
+use Rattle.tables.specs.Tables.{Tables}
 use Rattle.tables.specs.Fitting.{sources, targets}
 use Rattle.reader.specs.Standing.{Standing}
-use Rattle.picture.specs.Picture.{stateText, statesText, stepText, stepsText, drawing, picture}
+use Rattle.reader.proofs.Lines.{standing-room}
+use Rattle.picture.specs.Picture.{statesText, stepsText, drawing, picture}
 use Rattle.picture.specs.Reading.{Shows}
 use Rattle.picture.proofs.Drawing.{read-same}
 
@@ -59,37 +57,7 @@ rule-same n m {f} {f′} {from} {from′} {to} {to′} {successor} {successor′
     next : (s : ℕ) → Having n f statusUnknown s → to (successor s) ≡ to′ (successor′ s)
     next s x = b (successor s) (r .listed s x .0) ∙ ap to′ (q s (x .0))
 
-and-left : (a b : Bool) → a && b ≡ true → a ≡ true
-and-left true b e = refl
-and-left false b e = absurd (false≢true e)
-
-and-right : (a b : Bool) → a && b ≡ true → b ≡ true
-and-right true b e = e
-and-right false b e = absurd (false≢true e)
-
-abbrev AllLong : List Needed → Type 0
-AllLong [] = Unit {0}
-AllLong (x ∷ l) = (x .need ≤ x .have) × AllLong l
-
-all-long : (l : List Needed) → enough l ≡ true → AllLong l
-all-long [] e = tt
-all-long (x ∷ l) e =
-    (leb-true (x .need) (x .have) (and-left (leb (x .need) (x .have)) (enough l) e), all-long l (and-right (leb (x .need) (x .have)) (enough l) e))
-
-module _ {limit : ℕ} {h : History} {g : Graph} {t : Tables} (s : Standing limit h g t) where
-  long : AllLong (needs 2048 limit (lengths t))
-  long = all-long (needs 2048 limit (lengths t)) (s .long)
-
-  -- a reader's step list has an entry for each step
-  pub from-long : g .steps ≤ length (t .from)
-  from-long = omega (arith, s .room, long .1 .1 .0)
-
-  pub to-long : g .steps ≤ length (t .to)
-  to-long = omega (arith, s .room, long .1 .1 .1 .0)
-
-  successors-long : 2048 ≤ length (t .successor)
-  successors-long = long .1 .1 .1 .1 .0
-
+module _ {h : History} {g : Graph} {t : Tables} (s : Standing 2048 h g t) where
   abbrev picks : ℕ → ℕ
   picks x = getD (t .successor) x noSuccessor
 
@@ -110,7 +78,7 @@ module _ {limit : ℕ} {h : History} {g : Graph} {t : Tables} (s : Standing limi
         successor = picks;
         rule =
             subst (λ (m : ℕ). SuccessorRule 2048 m (status h) (λ p. getD (sources h) p 0) (λ p. getD (targets h) p 0) picks) (s .fits .steps)
-            (rule-same 2048 (g .steps) statuses froms tos (λ x z. read-same (t .successor) x 0 noSuccessor (omega (arith, successors-long)))
+            (rule-same 2048 (g .steps) statuses froms tos (λ x z. read-same (t .successor) x 0 noSuccessor (omega (arith, standing-room s .successor, s .states)))
             (subst (λ (n : ℕ). SuccessorRule n (g .steps) (λ x. getD (t .status) x 0) (λ p. getD (t .from) p 0) (λ p. getD (t .to) p 0) (λ x. getD (t .successor) x 0)) (s .states) (s .fits .successor)));
         bytes =
             rw (states-same 2048 (λ x. getD (t .status) x 0) (status h) statuses, steps-same (g .steps) (λ p. getD (t .from) p 0) (λ p. getD (t .to) p 0) (λ p. getD (sources h) p 0) (λ p. getD (targets h) p 0) picks froms tos, s .fits .steps) refl;

@@ -1,9 +1,8 @@
 -- A record that comes in parts: what is drawn at its end is the picture of its accepted lines.
 -- Assumes nothing.
 use mathlib.Core.Path.{_≡_, refl, sym, _∙_, ap, subst}
-use mathlib.Core.List.{List, [], _∷_, _++_, append-nil}
-use Prim.Native.Nat.{ℕ, _+_, _≤_, _<_}
-use native.Mathlib.Omega.{arith}
+use mathlib.Core.List.{List, [], _++_, append-nil}
+use Prim.Native.Nat.{ℕ, _≤_}
 use lib.ListN.{length, drop}
 use Rattle.gid.specs.Histories.{History}
 use Rattle.tables.specs.declared.Graph.{Graph}
@@ -21,7 +20,7 @@ use Rattle.reader.specs.Turning.{Came}
 use Rattle.reader.specs.Replaying.{afterItem, afterItems}
 use Rattle.reader.specs.Standing.{Standing}
 use Rattle.reader.proofs.Lines.{opened-stands, line-right}
-use Rattle.picture.specs.Picture.{picture, pictureRoom}
+use Rattle.picture.specs.Picture.{picture}
 use Rattle.picture.specs.Reading.{Shows, Reads, Draws}
 use Rattle.picture.proofs.Saying.{picture-says}
 
@@ -35,7 +34,7 @@ after-told limit h TooMany l = refl
 
 -- before the first line
 pub reads-none : (s : Splitter) (bytes : List ℕ) (g : Graph) (t : Tables) → Reads s bytes g t s bytes g t
-reads-none s bytes g t = record { says = λ limit h z. (h, z, λ rest. refl) }
+reads-none s bytes g t = record { says = λ h z. (h, z, λ rest. refl) }
 
 -- one line more
 pub reads-line :
@@ -45,14 +44,14 @@ pub reads-line :
 reads-line {s} {s₁} {bytes = bytes} l i j p n m c =
     rw (n, m)
     (record {
-      says = λ limit h z.
-          let a = p .says limit h z in (
-            afterItem limit (a .0) (afterPart s₁ l i .answer),
+      says = λ h z.
+          let a = p .says h z in (
+            afterItem 2048 (a .0) (afterPart s₁ l i .answer),
             line-right (a .1) c .1,
             λ rest.
                 a .2 rest ∙
-                ap (afterItems limit (a .0)) (run-part s₁ l rest i) ∙
-                after-told limit (a .0) (afterPart s₁ l i .answer) (run (afterPart s₁ l i .splitter) (drop (afterPart s₁ l i .next) l ++ rest)),
+                ap (afterItems 2048 (a .0)) (run-part s₁ l rest i) ∙
+                after-told 2048 (a .0) (afterPart s₁ l i .answer) (run (afterPart s₁ l i .splitter) (drop (afterPart s₁ l i .next) l ++ rest)),
           );
     })
 
@@ -66,8 +65,8 @@ draws {s} {g′ = g′} {t′ = t′} c w n =
       text = picture (g′ .steps) (t′ .status) (t′ .from) (t′ .to) (t′ .successor);
       wrote = w;
       within = n;
-      says = λ limit h z.
-          let q : afterItems limit h (told (atEnd s)) ≡ afterItem limit h (atEnd s) = ap (afterItems limit h) (sym (append-nil (told (atEnd s)))) ∙ after-told limit h (atEnd s) [] in
+      says = λ h z.
+          let q : afterItems 2048 h (told (atEnd s)) ≡ afterItem 2048 h (atEnd s) = ap (afterItems 2048 h) (sym (append-nil (told (atEnd s)))) ∙ after-told 2048 h (atEnd s) [] in
           subst (λ (x : History). Shows x (picture (g′ .steps) (t′ .status) (t′ .from) (t′ .to) (t′ .successor))) (sym q) (picture-says (line-right z c .1));
     }
 
@@ -76,11 +75,11 @@ pub data Session : Splitter → Graph → Tables → List ℕ → List ℕ → T
   part-then : {s s′ : Splitter} {g g′ : Graph} {t t′ : Tables} {part rest text : List ℕ} → Reads s part g t s′ [] g′ t′ → Session s′ g′ t′ rest text → Session s g t (part ++ rest) text
   ended : {s : Splitter} {g : Graph} {t : Tables} {at : ℕ} {d e : List ℕ} {r : ℕ} → (p : Draws s g t at d e r) → Session s g t [] (p .text)
 
-session-shows : {limit : ℕ} {h : History} {s : Splitter} {g : Graph} {t : Tables} {all text : List ℕ} → Standing limit h g t → Session s g t all text → Shows (afterItems limit h (run s all)) text
-session-shows {limit} {h} z (part-then {rest = rest} {text = text} p n) =
-    let a = p .says limit h z in
+session-shows : {h : History} {s : Splitter} {g : Graph} {t : Tables} {all text : List ℕ} → Standing 2048 h g t → Session s g t all text → Shows (afterItems 2048 h (run s all)) text
+session-shows {h} z (part-then {rest = rest} {text = text} p n) =
+    let a = p .says h z in
     subst (λ (x : History). Shows x text) (sym (a .2 rest)) (session-shows (a .1) n)
-session-shows {limit} {h} z (ended p) = p .says limit h z
+session-shows {h} z (ended p) = p .says h z
 
 -- On opened tables with limit 2,048, over any parts that make up the input, what is drawn is the picture of the history of the input's accepted lines.
 pub record-drawn : (t : Tables) → openNumber 2048 t ≡ 0 → (input text : List ℕ) → Session started (readerGraph 2048) (freshened 2048 t) input text → Shows (afterItems 2048 [] (items input)) text

@@ -23,18 +23,18 @@ pub record Shows (h : History) (text : List ℕ) : Type 0 where
   pub rule : SuccessorRule 2048 (length (sources h)) (status h) (λ p. getD (sources h) p 0) (λ p. getD (targets h) p 0) successor
   pub bytes : text ≡ drawing (length (sources h)) (status h) (λ p. getD (sources h) p 0) (λ p. getD (targets h) p 0) successor
 
--- The state value and the tables are those of a legal history, with limit 2,048.
+-- The state value and the tables are those of a legal history. The step limit is 2,048, here and below.
 abbrev pub Stands : Graph → Tables → Type 0
 Stands g t = (h : History) × Standing 2048 h g t
 
 -- Some bytes of a record have been read: on tables that fit, the rest of the record comes to the same history from there on. What follows the bytes does not matter.
 pub record Reads (s : Splitter) (bytes : List ℕ) (g : Graph) (t : Tables) (s′ : Splitter) (bytes′ : List ℕ) (g′ : Graph) (t′ : Tables) : Type 0 where
-  pub says : (limit : ℕ) (h : History) → Standing limit h g t →
-      (h′ : History) × Standing limit h′ g′ t′ × ((rest : List ℕ) → afterItems limit h (run s (bytes ++ rest)) ≡ afterItems limit h′ (run s′ (bytes′ ++ rest)))
+  pub says : (h : History) → Standing 2048 h g t →
+      (h′ : History) × Standing 2048 h′ g′ t′ × ((rest : List ℕ) → afterItems 2048 h (run s (bytes ++ rest)) ≡ afterItems 2048 h′ (run s′ (bytes′ ++ rest)))
 
 -- The end of a record: a picture has been written at a place of a buffer, on tables that fit that of the history after the last line.
 pub record Draws (s : Splitter) (g : Graph) (t : Tables) (at : ℕ) (d e : List ℕ) (r : ℕ) : Type 0 where
   pub text : List ℕ
   pub wrote : WroteAt at text d e r
   pub within : r ≤ length d
-  pub says : (limit : ℕ) (h : History) → Standing limit h g t → Shows (afterItems limit h (run s [])) text
+  pub says : (h : History) → Standing 2048 h g t → Shows (afterItems 2048 h (run s [])) text

@@ -1,12 +1,13 @@
 -- What comes of each line is what the definitions say, all along a record from opened tables.
 -- Assumes nothing.
 use mathlib.Core.Path.{_≡_, refl, sym, _∙_, ap, subst}
-use mathlib.Core.Bool.{true}
+use mathlib.Core.Bool.{Bool, true}
 use mathlib.Core.List.{List, [], _∷_, _++_}
 use mathlib.Core.Option.{Option, some, none}
-use Prim.Native.Nat.{ℕ}
+use Prim.Native.Nat.{ℕ, _≤_}
 use native.Mathlib.Omega.{arith}
 use lib.ListN.{take}
+use borrow.Author.Tests.{le-ltb}
 use Rattle.gid.specs.declared.Update.{Update}
 use Rattle.gid.specs.Histories.{History}
 use Rattle.gid.specs.Refusals.{refusal}
@@ -14,10 +15,13 @@ use Rattle.gid.specs.Outcomes.{Outcome, refused, accepted, given, outcome, afte
 use Rattle.tables.specs.declared.Graph.{Graph}
 use Rattle.tables.specs.declared.lengths.Lengths.{Lengths}
 use Rattle.tables.specs.Tables.{Tables, enough, needs, lengths}
+use Rattle.tables.specs.Refused.{lentNumber}
 use Rattle.engine.specs.declared.Engine.{Engine}
 use Rattle.engine.specs.declared.Answer.{Answer as Answered}
 use Rattle.engine.specs.declared.Answer.the-variants.{Accepted, Refused}
+use Rattle.engine.specs.Done.{Room}
 use Rattle.engine.specs.Promise.{Promise}
+use Rattle.engine.proofs.Promising.{room-of}
 use Rattle.engine.proofs.Running.{Sound, sound}
 use Rattle.engine.proofs.Replay.{Answers, yes-news, no-number, replay}
 use Rattle.engine.specs.Runs.{Checked, Run, begun, accepted as goes-on, refused as passes}
@@ -59,6 +63,15 @@ opens-ready (refuses e n x) q = absurd (let z : _≡_ {A = ℕ} 0 1 = cc in omeg
 opens-ready {limit} {t} {e = e} (readies z x) q =
     let y : e ≡ record { graph = readerGraph limit } = cc in
     (z, rw (y, x) (opened-stands limit t z))
+
+reader-lent : (g : Graph) (long : Bool) → g .n ≡ 2048 → g .limit ≡ 2048 → g .steps ≤ 2048 → long ≡ true → lentNumber g long ≡ 0
+unfolding lentNumber
+reader-lent g long p q r z = rw (p, q, z, le-ltb 2048 (g .steps) r)
+
+-- With limit 2,048 a reader's tables have the room that an update asks for.
+pub standing-room : {h : History} {g : Graph} {t : Tables} → Standing 2048 h g t → Room (g .n) (g .limit) (g .steps) t
+standing-room {g = g} {t = t} s =
+    room-of g t (reader-lent g (enough (needs (g .n) (g .limit) (lengths t))) (s .states) (s .limits) (s .room) (rw (s .states, s .limits) (s .long)))
 
 taken : {news : List ℕ} {k : ℕ} {o : Outcome} (line : ℕ) → Answers news (Accepted k) o → Tells news line (Took line k) o
 taken line (yes-news q) = line-taken q

@@ -57,7 +57,7 @@ loop-again : tie.Need-loop-again Inv-loop μ-loop
 loop-again c =
     let p = c .before .before .before .before .before .before .before .before .before .before .before .before .before .before .before .before .before .before .before .before .before .before .before .before .read-part in
     let v = c .before .before .before .before .before .before .before .before .before .before .before .before .before .before .before .before .before .before .before .before .before .before .before .before .before .before .before .before .before .before .before .before .before .before .before .before .before .before .before .before .before .before .before .before .before .before .loop .inv in
-    let q = p .ensures .says 2048 (v .2 .0) (v .2 .1) in
+    let q = p .ensures .says (v .2 .0) (v .2 .1) in
     ((p .kept .1 .1 .0 ∙ v .0 .0, p .kept .1 .1 .1 .0 ∙ v .0 .1, p .kept .1 .1 .1 .1 .0 ∙ v .0 .2, p .kept .1 .1 .1 .1 .1 .0 ∙ v .0 .3, p .kept .1 .1 .1 .1 .1 .1 .0 ∙ v .0 .4, p .kept .1 .1 .1 .1 .1 .1 .1 .0 ∙ v .0 .5, p .kept .1 .1 .1 .1 .1 .1 .1 .1 .0 ∙ v .0 .6, p .kept .1 .1 .1 .1 .1 .1 .1 .1 .1 .0 ∙ v .0 .7, p .kept .1 .1 .1 .1 .1 .1 .1 .1 .1 .1 .0 ∙ v .0 .8, p .kept .1 .1 .1 .1 .1 .1 .1 .1 .1 .1 .1 .0 ∙ v .0 .9, p .kept .1 .1 .1 .1 .1 .1 .1 .1 .1 .1 .1 .1 .0 ∙ v .0 .10, p .kept .1 .1 .1 .1 .1 .1 .1 .1 .1 .1 .1 .1 .1 .0 ∙ v .0 .11), c .before .before .before .before .before .before .before .before .before .before .before .before .before .before .before .before .before .before .before .before .before .before .before .before .before .before .before .before .before .before .before .before .before .before .before .before .before .before .before .before .before .before .before .read .kept .1 .0 ∙ v .1, (q .0, q .1))
 
 draw-end-requires : tie.Need-draw-end-requires Inv-loop μ-loop
