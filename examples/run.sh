@@ -1,9 +1,10 @@
 #!/usr/bin/env bash
-# Builds the listing program and lists the sample records, then builds the library for C and runs the examples over it.
+# Builds the listing and drawing programs, lists and draws the sample records, then builds the library for C and runs the examples over it.
 # With --check the outputs are held to the stored ones.
 set -eu
 cd "$(dirname "$0")/.."
 [ -x target/bin/listing ] || rt check listing >/dev/null
+[ -x target/bin/draw ] || rt check draw >/dev/null
 [ -f target/staticlib/libcapi.a ] || rt staticlib capi >/dev/null
 for program in story explorer; do
     gcc -std=c11 -O2 -Wall -Wextra -Werror -Iinclude "examples/$program.c" target/staticlib/libcapi.a -o "target/$program"
@@ -15,6 +16,7 @@ verdicts() { target/explorer 0 1 2 2048 <"$1"; }
 if [ "${1:-}" = --check ]; then
     for record in examples/*.record; do
         target/bin/listing <"$record" | diff "${record%.record}.listing" -
+        target/bin/draw <"$record" | diff "${record%.record}.dot" -
         verdicts "$record" | diff "${record%.record}.verdicts" -
     done
     target/story | diff examples/story.expected -
@@ -22,6 +24,7 @@ else
     for record in examples/*.record; do
         echo "== $record"
         target/bin/listing <"$record"
+        target/bin/draw <"$record"
         echo "== examples/explorer.c"
         verdicts "$record"
     done
