@@ -1,8 +1,8 @@
 -- The splitter, fed a record byte by byte, answers the items of the record. The line buffer holds what a line's judgement needs of it, whatever the line's length.
 -- Assumes nothing.
-use mathlib.Core.Path.{_≡_, refl, sym, _∙_, ap}
+use mathlib.Core.Path.{_≡_, refl, sym, _∙_, ap, subst}
 use mathlib.Core.Logic.{_⊎_, inl, inr, ⊎-elim}
-use mathlib.Core.Bool.{Bool, true, false, not, cond, _&&_, and-false}
+use mathlib.Core.Bool.{Bool, true, false, cond}
 use mathlib.Core.List.{List, [], _∷_, _++_, append-assoc, append-nil}
 use mathlib.Core.Option.{Option, some, none}
 use Prim.Native.Nat.{ℕ, suc, _+_, _≤_, _<_}
@@ -12,7 +12,7 @@ use native.Mathlib.Decide.{decLt, ℕ-discrete}
 use lib.Dec.{leb, ltb, eqb}
 use lib.ListN.{length, take, drop, set, length-append, length-drop, length-set, drop-of-length-le}
 use lib.Seq.{take-suc-set, drop-drop, drop-at}
-use borrow.Author.Tests.{eq-eqb, ne-eqb, le-leb, lt-leb, eqb-true, eqb-false, lt-ltb, le-ltb, ltb-true, ltb-false}
+use borrow.Author.Tests.{eq-eqb, ne-eqb, le-leb, lt-leb, leb-false, eqb-true, eqb-false, lt-ltb, le-ltb, ltb-true, ltb-false}
 use Rattle.gid.specs.declared.Update.{Update}
 use Rattle.record.specs.declared.line.Line.{Line}
 use Rattle.record.specs.declared.splitter.Answer.{Answer}
@@ -25,7 +25,7 @@ use Rattle.record.specs.Lines.{lines, before}
 use Rattle.record.specs.Items.{same, item, further, all, items}
 use Rattle.record.specs.Buffer.{emptyLine, withByte, withBytes, lineIn, isNamesIn}
 use Rattle.record.specs.Parsing.{parsed}
-use Rattle.record.specs.Splitting.{at, fed, advanced, started, afterFirst, afterFurther, afterLine, afterByte, afterPart, atEnd, told, run, answered}
+use Rattle.record.specs.Splitting.{at, fed, advanced, started, afterFirst, afterFurther, afterLine, afterByte, afterPart, pending, atEnd, told, run, afterBytes, answered}
 use Rattle.record.proofs.Sameness.{other-length}
 
 pub answered-item : (o : Option Update) (n : ℕ) → answered (parsed o) n ≡ item n o
@@ -94,14 +94,18 @@ told-item : (n : ℕ) (o : Option Update) → told (item n o) ≡ item n o ∷ [
 told-item n none = refl
 told-item n (some x) = refl
 
-either-way : (t : Bool) (a : Answer) → a ≡ Nothing → told (cond t Nothing a) ≡ []
-either-way true a e = refl
-either-way false a e = rw e
+either-way : (t : Bool) → told (cond t Nothing Nothing) ≡ []
+either-way true = refl
+either-way false = refl
+
+either-true : (t : Bool) → cond t true true ≡ true
+either-true true = refl
+either-true false = refl
 
 -- After a 10 or a 12 nothing more is told.
 pub run-stopped : (s : List ℕ) (b : Line) (n : ℕ) → run (at b n true) s ≡ []
 unfolding run atEnd afterLine afterByte
-run-stopped [] b n = either-way (eqb (b .len) 0 && not (eqb n 1)) Nothing refl
+run-stopped [] b n = either-way (pending (at b n true))
 run-stopped (c ∷ s) b n = by (eqb c 10) (run-stopped s b n) (run-stopped s (withByte b c) n)
   where
     by : (t : Bool) → run (at b n true) s ≡ [] → run (at (withByte b c) n true) s ≡ [] → told (cond t (fed (at b n true) Nothing) (fed (at (withByte b c) n true) Nothing) .answer) ++ run (cond t (fed (at b n true) Nothing) (fed (at (withByte b c) n true) Nothing) .splitter) s ≡ []
@@ -125,7 +129,7 @@ module _ (n : ℕ) (h : 2 ≤ n) where
   -- a further line has ended
   further-line : (l : List ℕ) (b : Line) → Holds b l → (s : List ℕ) → ((m : ℕ) → 2 ≤ m → run (at emptyLine m false) s ≡ further m (lines s)) → onward (afterLine (at b n false)) s ≡ further n (l ∷ lines s)
   unfolding onward afterLine afterFurther further
-  further-line l b k s ih = rw (ne-eqb n 1 (λ e. omega arith), line-held b l k) (by (leb n 65535))
+  further-line l b k s ih = rw (lt-leb n 1 (omega arith), line-held b l k) (by (leb n 65535))
     where
       by : (t : Bool) → onward (cond t (fed (at emptyLine (n + 1) false) (item n (lineOf l))) (fed (at emptyLine n true) TooMany)) s ≡ cond t (item n (lineOf l) ∷ further (n + 1) (lines s)) (TooMany ∷ [])
       by true = rw (told-item n (lineOf l), ih (n + 1) (omega arith)) refl
@@ -134,15 +138,15 @@ module _ (n : ℕ) (h : 2 ≤ n) where
   -- the end of the record, in a further line
   further-told : (l : List ℕ) (b : Line) → Holds b l → told (afterLine (at b n false) .answer) ≡ further n (l ∷ [])
   unfolding afterLine afterFurther further
-  further-told l b k = rw (ne-eqb n 1 (λ e. omega arith), line-held b l k) (by (leb n 65535))
+  further-told l b k = rw (lt-leb n 1 (omega arith), line-held b l k) (by (leb n 65535))
     where
       by : (t : Bool) → told (cond t (fed (at emptyLine (n + 1) false) (item n (lineOf l))) (fed (at emptyLine n true) TooMany) .answer) ≡ cond t (item n (lineOf l) ∷ []) (TooMany ∷ [])
       by true = told-item n (lineOf l)
       by false = refl
 
   further-end : (l : List ℕ) (b : Line) → Holds b l → Unbroken l → run (at b n false) [] ≡ further n (lines l)
-  unfolding run atEnd lines further
-  further-end [] b k u = rw (held-length b [] k, ne-eqb n 1 (λ e. omega arith)) refl
+  unfolding run atEnd pending lines further
+  further-end [] b k u = rw (held-length b [] k, lt-leb n 1 (omega arith)) refl
   further-end (x ∷ l) b k u =
       rw (held-length b (x ∷ l) k, ne-eqb (length (x ∷ l)) 0 (λ e. omega arith), lines-last x l u) (further-told (x ∷ l) b k)
 
@@ -179,9 +183,9 @@ unfolding all same
 no-first = refl
 
 first-end : (l : List ℕ) (b : Line) → Holds b l → Unbroken l → run (at b 1 false) [] ≡ all (lines l)
-unfolding run atEnd lines
-first-end [] b k u = rw (and-false (eqb (b .len) 0), no-first) (first-told [] b k)
-first-end (x ∷ l) b k u = rw (and-false (eqb (b .len) 0), lines-last x l u) (first-told (x ∷ l) b k)
+unfolding run atEnd pending lines
+first-end [] b k u = rw (either-true (eqb (b .len) 0), no-first) (first-told [] b k)
+first-end (x ∷ l) b k u = rw (either-true (eqb (b .len) 0), lines-last x l u) (first-told (x ∷ l) b k)
 
 first-all : (s l : List ℕ) (b : Line) → Holds b l → Unbroken l → run (at b 1 false) s ≡ all (lines (l ++ s))
 first-all [] l b k u = rw append-nil (first-end l b k u)
@@ -198,12 +202,6 @@ pub run-items : (s : List ℕ) → run started s ≡ items s
 unfolding items
 run-items s = first-all s [] emptyLine holds-empty none′
 
--- Bytes up to a newline go to the line.
-run-unbroken : {u : List ℕ} (s : List ℕ) (b : Line) (n : ℕ) (q : Bool) → Unbroken u → run (at b n q) (u ++ s) ≡ run (at (withBytes b u) n q) s
-unfolding withBytes
-run-unbroken s b n q none′ = refl
-run-unbroken s b n q (more {b = c} {l = l} h u) = run-byte c (l ++ s) b n q h ∙ run-unbroken s (withByte b c) n q u
-
 -- Where bytes have a newline, and that there is none before it.
 Broken : List ℕ → Type 0
 Broken t = (before t ≡ t) ⊎ ((u : List ℕ) × (t ≡ before t ++ (10 ∷ u)))
@@ -218,41 +216,106 @@ broken (c ∷ t) = by (eqb c 10) refl (broken t)
     by false e h =
         (more (eqb-false c 10 e) (h .0), ⊎-elim (λ p. inl (ap (λ (l : List ℕ). c ∷ l) p)) (λ p. inr (p .0, ap (λ (l : List ℕ). c ∷ l) (p .1))) (h .1))
 
-module _ (s : Splitter) (l r : List ℕ) (i : ℕ) where
-  -- What feeding up to the end of a line says of the bytes fed one by one.
-  Parted : Type 0
-  Parted = run s (drop i l ++ r) ≡ told (afterPart s l i .answer) ++ run (afterPart s l i .splitter) (drop (afterPart s l i .next) l ++ r)
+-- What bytes come to, F, and what they come to once a line has ended, G: a byte that is no newline goes to the line, and a newline ends it.
+module _ {A : Type 0} (F : Splitter → List ℕ → A) (G : Fed → List ℕ → A)
+    (goes : (c : ℕ) (s : List ℕ) (b : Line) (n : ℕ) (q : Bool) → (c ≡ 10 → ⊥) → F (at b n q) (c ∷ s) ≡ F (at (withByte b c) n q) s)
+    (breaks : (c : ℕ) (s : List ℕ) (b : Line) (n : ℕ) (q : Bool) → c ≡ 10 → F (at b n q) (c ∷ s) ≡ G (afterLine (at b n q)) s)
+    (quiet : (t : Splitter) (s : List ℕ) → F t s ≡ G (fed t Nothing) s) where
+  -- Bytes up to a newline go to the line.
+  unbroken-goes : {u : List ℕ} (s : List ℕ) (b : Line) (n : ℕ) (q : Bool) → Unbroken u → F (at b n q) (u ++ s) ≡ F (at (withBytes b u) n q) s
+  unfolding withBytes
+  unbroken-goes s b n q none′ = refl
+  unbroken-goes s b n q (more {b = c} {l = l} h u) = goes c (l ++ s) b n q h ∙ unbroken-goes s (withByte b c) n q u
 
-  unended : (t : List ℕ) → drop i l ≡ t → before t ≡ t → Unbroken (before t) → Parted
-  unfolding afterPart Parted
-  unended t d e u =
-      let n : length l ≤ i + length (before t) = omega (arith, length-drop i l, ap length d, ap length e) in
-      rw (d, le-ltb (i + length (before t)) (length l) n, drop-of-length-le l n)
-      (ap (λ (x : List ℕ). run s (x ++ r)) (sym e) ∙ run-unbroken r (s .line) (s .number) (s .stopped) u)
+  module _ (s : Splitter) (l r : List ℕ) (i : ℕ) where
+    -- What feeding up to the end of a line says of the bytes fed one by one.
+    Parted : Type 0
+    Parted = F s (drop i l ++ r) ≡ G (fed (afterPart s l i .splitter) (afterPart s l i .answer)) (drop (afterPart s l i .next) l ++ r)
 
-  ended : (t u : List ℕ) → drop i l ≡ t → t ≡ before t ++ (10 ∷ u) → Unbroken (before t) → Parted
-  unfolding afterPart Parted onward
-  ended t u d e k =
-      let m : length t ≡ length (before t) + suc (length u) = ap length e ∙ length-append (before t) (10 ∷ u) in
-      let n : i + length (before t) < length l = omega (arith, length-drop i l, ap length d) in
-      rw (d, lt-ltb (i + length (before t)) (length l) n, behind)
-      (ap (λ (x : List ℕ). run s (x ++ r)) e ∙
-      ap (run s) (append-assoc (before t) (10 ∷ u) r) ∙
-      run-unbroken (10 ∷ u ++ r) (s .line) (s .number) (s .stopped) k ∙
-      run-break 10 (u ++ r) (withBytes (s .line) (before t)) (s .number) (s .stopped) refl)
-    where
-      behind : drop (i + length (before t) + 1) l ≡ u
-      behind =
-          let z : i + length (before t) + 1 ≡ i + (length (before t) + 1) = omega arith in
-          ap (λ (x : ℕ). drop x l) z ∙
-          sym (drop-drop (length (before t) + 1) i l) ∙
-          ap (drop (length (before t) + 1)) (d ∙ e ∙ sym (append-assoc (before t) (10 ∷ []) u)) ∙
-          drop-at (before t ++ (10 ∷ [])) u (length (before t) + 1) (length-append (before t) (10 ∷ []))
+    unended : (t : List ℕ) → drop i l ≡ t → before t ≡ t → Unbroken (before t) → Parted
+    unfolding afterPart Parted
+    unended t d e u =
+        let n : length l ≤ i + length (before t) = omega (arith, length-drop i l, ap length d, ap length e) in
+        rw (d, le-ltb (i + length (before t)) (length l) n, drop-of-length-le l n)
+        (ap (λ (x : List ℕ). F s (x ++ r)) (sym e) ∙
+        unbroken-goes r (s .line) (s .number) (s .stopped) u ∙
+        quiet (at (withBytes (s .line) (before t)) (s .number) (s .stopped)) r)
 
-  -- Feeding up to the end of a line, at once, is feeding the bytes one by one.
-  pub run-part : run s (drop i l ++ r) ≡ told (afterPart s l i .answer) ++ run (afterPart s l i .splitter) (drop (afterPart s l i .next) l ++ r)
-  unfolding Parted Broken
-  run-part = ⊎-elim (λ e. unended (drop i l) refl e (broken (drop i l) .0)) (λ e. ended (drop i l) (e .0) refl (e .1) (broken (drop i l) .0)) (broken (drop i l) .1)
+    ended : (t u : List ℕ) → drop i l ≡ t → t ≡ before t ++ (10 ∷ u) → Unbroken (before t) → Parted
+    unfolding afterPart Parted
+    ended t u d e k =
+        let m : length t ≡ length (before t) + suc (length u) = ap length e ∙ length-append (before t) (10 ∷ u) in
+        let n : i + length (before t) < length l = omega (arith, length-drop i l, ap length d) in
+        rw (d, lt-ltb (i + length (before t)) (length l) n, behind)
+        (ap (λ (x : List ℕ). F s (x ++ r)) e ∙
+        ap (F s) (append-assoc (before t) (10 ∷ u) r) ∙
+        unbroken-goes (10 ∷ u ++ r) (s .line) (s .number) (s .stopped) k ∙
+        breaks 10 (u ++ r) (withBytes (s .line) (before t)) (s .number) (s .stopped) refl)
+      where
+        behind : drop (i + length (before t) + 1) l ≡ u
+        behind =
+            let z : i + length (before t) + 1 ≡ i + (length (before t) + 1) = omega arith in
+            ap (λ (x : ℕ). drop x l) z ∙
+            sym (drop-drop (length (before t) + 1) i l) ∙
+            ap (drop (length (before t) + 1)) (d ∙ e ∙ sym (append-assoc (before t) (10 ∷ []) u)) ∙
+            drop-at (before t ++ (10 ∷ [])) u (length (before t) + 1) (length-append (before t) (10 ∷ []))
+
+    -- Feeding up to the end of a line, at once, is feeding the bytes one by one.
+    parted : F s (drop i l ++ r) ≡ G (fed (afterPart s l i .splitter) (afterPart s l i .answer)) (drop (afterPart s l i .next) l ++ r)
+    unfolding Parted Broken
+    parted = ⊎-elim (λ e. unended (drop i l) refl e (broken (drop i l) .0)) (λ e. ended (drop i l) (e .0) refl (e .1) (broken (drop i l) .0)) (broken (drop i l) .1)
+
+-- What is told,
+pub run-part : (s : Splitter) (l r : List ℕ) (i : ℕ) → run s (drop i l ++ r) ≡ told (afterPart s l i .answer) ++ run (afterPart s l i .splitter) (drop (afterPart s l i .next) l ++ r)
+unfolding onward
+run-part s l r i = parted run onward run-byte run-break (λ t x. refl) s l r i
+
+-- and where the splitter stands.
+byte-goes : (c : ℕ) (s : List ℕ) (b : Line) (n : ℕ) (q : Bool) → (c ≡ 10 → ⊥) → afterBytes (at b n q) (c ∷ s) ≡ afterBytes (at (withByte b c) n q) s
+unfolding afterBytes afterByte
+byte-goes c s b n q h = rw (ne-eqb c 10 h)
+
+byte-breaks : (c : ℕ) (s : List ℕ) (b : Line) (n : ℕ) (q : Bool) → c ≡ 10 → afterBytes (at b n q) (c ∷ s) ≡ afterBytes (afterLine (at b n q) .splitter) s
+unfolding afterBytes afterByte
+byte-breaks c s b n q h = rw (eq-eqb c 10 h)
+
+pub part-bytes : (s : Splitter) (l : List ℕ) (i : ℕ) → afterBytes s (drop i l) ≡ afterBytes (afterPart s l i .splitter) (drop (afterPart s l i .next) l)
+part-bytes s l i =
+    ap (afterBytes s) (sym (append-nil (drop i l))) ∙
+    parted afterBytes (λ f x. afterBytes (f .splitter) x) byte-goes byte-breaks (λ t x. refl) s l [] i ∙
+    ap (afterBytes (afterPart s l i .splitter)) (append-nil (drop (afterPart s l i .next) l))
+
+-- Once a line has ended, the end of the record tells nothing more.
+line-over : (s : Splitter) → told (atEnd (afterLine s .splitter)) ≡ []
+unfolding run atEnd pending afterLine afterFirst afterFurther
+line-over s = by (s .stopped) refl
+  where
+    further-over : (p : Bool) → leb (s .number) 1 ≡ false → told (atEnd (cond p (fed (at emptyLine (s .number + 1) false) (item (s .number) (lineIn (s .line)))) (fed (at emptyLine (s .number) true) TooMany) .splitter)) ≡ []
+    further-over true e = let z : 1 < s .number + 1 = omega (arith, leb-false (s .number) 1 e) in rw (lt-leb (s .number + 1) 1 z)
+    further-over false e = rw e
+
+    line : (p q : Bool) → leb (s .number) 1 ≡ p → told (atEnd (cond p (cond q (fed (at emptyLine 2 false) Nothing) (fed (at emptyLine 2 true) BadNames)) (cond (leb (s .number) 65535) (fed (at emptyLine (s .number + 1) false) (item (s .number) (lineIn (s .line)))) (fed (at emptyLine (s .number) true) TooMany)) .splitter)) ≡ []
+    line true true e = refl
+    line true false e = refl
+    line false q e = further-over (leb (s .number) 65535) e
+
+    by : (p : Bool) → s .stopped ≡ p → told (atEnd (cond p (fed s Nothing) (cond (leb (s .number) 1) (cond (isNamesIn (s .line)) (fed (at emptyLine 2 false) Nothing) (fed (at emptyLine 2 true) BadNames)) (cond (leb (s .number) 65535) (fed (at emptyLine (s .number + 1) false) (item (s .number) (lineIn (s .line)))) (fed (at emptyLine (s .number) true) TooMany))) .splitter)) ≡ []
+    by true e = subst (λ (q : Bool). run (at (s .line) (s .number) q) [] ≡ []) (sym e) (run-stopped [] (s .line) (s .number))
+    by false e = line (leb (s .number) 1) (isNamesIn (s .line)) refl
+
+-- A line that is left is told by a newline as by the end of the record, and nothing is left behind it.
+pub pending-told : (s : Splitter) → pending s ≡ true → run s (10 ∷ []) ≡ run s []
+unfolding run afterByte atEnd
+pending-told s e = rw (e, line-over s, append-nil (told (afterLine s .answer)))
+
+pub over-told : (s : Splitter) → run (afterBytes s (10 ∷ [])) [] ≡ []
+unfolding run afterBytes afterByte
+over-told s = line-over s
+
+-- Where none is left the end tells nothing.
+pub idle-told : (s : Splitter) → pending s ≡ false → run s [] ≡ []
+unfolding run atEnd
+idle-told s e = rw e
 
 before-length : (t : List ℕ) → length (before t) ≤ length t
 unfolding before

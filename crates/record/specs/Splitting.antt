@@ -1,6 +1,6 @@
 -- The splitter's steps: what a byte and the end of the record do. proofs/Splitting.antt proves that the answers are the items of the record.
 -- Assumes nothing.
-use mathlib.Core.Bool.{Bool, true, false, not, cond, _&&_}
+use mathlib.Core.Bool.{Bool, true, false, cond}
 use mathlib.Core.List.{List, [], _∷_, _++_}
 use Prim.Native.Nat.{ℕ, _+_}
 use lib.Dec.{leb, ltb, eqb}
@@ -37,7 +37,7 @@ unfoldable pub afterFurther : Line → ℕ → Fed
 afterFurther l n = cond (leb n 65535) (fed (at emptyLine (n + 1) false) (item n (lineIn l))) (fed (at emptyLine n true) TooMany)
 
 unfoldable pub afterLine : Splitter → Fed
-afterLine s = cond (s .stopped) (fed s Nothing) (cond (eqb (s .number) 1) (afterFirst (s .line)) (afterFurther (s .line) (s .number)))
+afterLine s = cond (s .stopped) (fed s Nothing) (cond (leb (s .number) 1) (afterFirst (s .line)) (afterFurther (s .line) (s .number)))
 
 unfoldable pub afterByte : Splitter → ℕ → Fed
 afterByte s b = cond (eqb b 10) (afterLine s) (fed (at (withByte (s .line) b) (s .number) (s .stopped)) Nothing)
@@ -49,8 +49,12 @@ afterPart s l i =
     let t = at (f .line) (s .number) (s .stopped) in
     cond (ltb (f .next) (length l)) (advanced (afterLine t) (f .next + 1)) (advanced (fed t Nothing) (f .next))
 
+-- Whether a line is left that the end of the record ends: "A missing last newline makes no difference. Empty input lacks its names line."
+unfoldable pub pending : Splitter → Bool
+pending s = cond (eqb (s .line .len) 0) (leb (s .number) 1) true
+
 unfoldable pub atEnd : Splitter → Answer
-atEnd s = cond (eqb (s .line .len) 0 && not (eqb (s .number) 1)) Nothing (afterLine s .answer)
+atEnd s = cond (pending s) (afterLine s .answer) Nothing
 
 -- An answer that says something.
 abbrev pub told : Answer → List Answer
@@ -64,6 +68,11 @@ told TooMany = TooMany ∷ []
 unfoldable pub run : Splitter → List ℕ → List Answer
 run s [] = told (atEnd s)
 run s (b ∷ l) = told (afterByte s b .answer) ++ run (afterByte s b .splitter) l
+
+-- The splitter after bytes that were fed one by one.
+unfoldable pub afterBytes : Splitter → List ℕ → Splitter
+afterBytes s [] = s
+afterBytes s (b ∷ l) = afterBytes (afterByte s b .splitter) l
 
 abbrev pub answered : Parsed → ℕ → Answer
 answered (IsUpdate x) n = Read (record { line = n; update = x })

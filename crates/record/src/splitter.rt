@@ -1,6 +1,6 @@
 // The splitter: it is fed a record byte by byte, and answers what each line is as the line ends.
 ghost use mathlib.Core.Path.{_≡_};
-ghost use Rattle.record.specs.Splitting.{started, afterFirst, afterFurther, afterLine, afterByte, afterPart, atEnd, answered};
+ghost use Rattle.record.specs.Splitting.{started, afterFirst, afterFurther, afterLine, afterByte, afterPart, pending, atEnd, answered};
 use crate::grammar::Parsed;
 use crate::line::Line;
 use gid::Update;
@@ -110,18 +110,26 @@ impl Splitter {
         }
     }
 
-    // The end of the record: "A missing last newline makes no difference. Empty input lacks its names line."
-    pub fn finish(self) -> Answer
-        ensures { λ r. ⌜ r ≡ atEnd self ⌝ }
+    // Whether a line is left that the end of the record ends: "A missing last newline makes no difference. Empty input lacks its names line."
+    pub fn pending(self) -> bool
+        ensures { λ r. ⌜ r ≡ pending self ⌝ }
     {
         let line = self.line;
         if line.len == 0 {
-            if self.number != 1 {
-                return Answer::Nothing;
-            }
+            return self.number <= 1;
         }
-        let fed = self.ended();
-        fed.answer
+        true
+    }
+
+    // The end of the record.
+    pub fn finish(self) -> Answer
+        ensures { λ r. ⌜ r ≡ atEnd self ⌝ }
+    {
+        if self.pending() {
+            let fed = self.ended();
+            return fed.answer;
+        }
+        Answer::Nothing
     }
 
     // The line has ended.
@@ -135,7 +143,7 @@ impl Splitter {
             };
         }
         let line = self.line;
-        if self.number == 1 {
+        if self.number <= 1 {
             first_line(line)
         } else {
             further_line(line, self.number)

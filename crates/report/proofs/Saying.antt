@@ -27,7 +27,7 @@ use Rattle.record.specs.declared.splitter.Splitter.{Splitter}
 use Rattle.record.specs.Lines.{before}
 use Rattle.record.specs.Buffer.{emptyLine, withBytes, lineIn, isNamesIn}
 use Rattle.record.specs.Items.{item, placeOf}
-use Rattle.record.specs.Splitting.{at, fed, advanced, afterFirst, afterFurther, afterLine, afterPart, atEnd, told}
+use Rattle.record.specs.Splitting.{at, fed, advanced, afterFirst, afterFurther, afterLine, afterPart, told}
 use Rattle.reader.specs.declared.Outcome.{Outcome as Came′}
 use Rattle.reader.specs.Turning.{Came, nothing, took, turned, malformed, badNames, tooMany}
 use Rattle.reader.specs.declared.Outcome.the-variants.{Accepted as Took, Refused as Turned}
@@ -36,7 +36,7 @@ use Rattle.reader.specs.Standing.{Standing}
 use Rattle.reader.proofs.Lines.{Tells, line-taken, line-refused, line-right}
 use Rattle.report.specs.Texts.{newsText, refusedText, totalsOf, totalsText}
 use Rattle.report.specs.Listing.{outcomeText, lineText, printed}
-use Rattle.report.specs.Printing.{tableText, endText, Printable}
+use Rattle.report.specs.Printing.{tableText, tableTotals, Printable}
 
 -- line numbers have at most five digits
 item-place : (n : ℕ) (o : Option Update) → placeOf (item n o) ≡ n
@@ -45,7 +45,7 @@ item-place n (some x) = refl
 
 line-place : (s : Splitter) → placeOf (afterLine s .answer) ≤ 65536
 unfolding afterLine afterFirst afterFurther
-line-place s = by (s .stopped) (eqb (s .number) 1) (isNamesIn (s .line)) (leb (s .number) 65535) refl
+line-place s = by (s .stopped) (leb (s .number) 1) (isNamesIn (s .line)) (leb (s .number) 65535) refl
   where
     by : (p q r u : Bool) → leb (s .number) 65535 ≡ u → placeOf (cond p (fed s Nothing) (cond q (cond r (fed (at emptyLine 2 false) Nothing) (fed (at emptyLine 2 true) BadNames)) (cond u (fed (at emptyLine (s .number + 1) false) (item (s .number) (lineIn (s .line)))) (fed (at emptyLine (s .number) true) TooMany))) .answer) ≤ 65536
     by true q r u e = omega arith
@@ -64,14 +64,6 @@ part-place s l i = by (ltb (i + length (before (drop i l))) (length l))
     by : (q : Bool) → placeOf (cond q (advanced (afterLine t) (i + length (before (drop i l)) + 1)) (advanced (fed t Nothing) (i + length (before (drop i l)))) .answer) ≤ 65536
     by true = line-place t
     by false = omega arith
-
-pub end-place : (s : Splitter) → placeOf (atEnd s) ≤ 65536
-unfolding atEnd
-end-place s = by (eqb (s .line .len) 0 && not (eqb (s .number) 1))
-  where
-    by : (b : Bool) → placeOf (cond b Nothing (afterLine s .answer)) ≤ 65536
-    by true = omega arith
-    by false = line-place s
 
 -- what came of a line can be printed
 pub printable : {a : Answer} {g g′ : Graph} {t t′ : Tables} {o : Came′} → Came a g t g′ t′ o → placeOf a ≤ 65536 → Printable o (t′ .news)
@@ -135,10 +127,7 @@ printed-told limit h (Malformed n) l = refl
 printed-told limit h BadNames l = refl
 printed-told limit h TooMany l = refl
 
--- The end of the record.
-pub end-of : {a : Answer} {g g′ : Graph} {t t′ : Tables} {o : Came′} → Came a g t g′ t′ o → (limit : ℕ) (h : History) → Standing limit h g t → (endText o t′ ≡ printed limit h (told a)) × Standing limit (afterItem limit h a) g′ t′
+-- The totals of tables that fit are those of the history.
+pub totals-say : {limit : ℕ} {h : History} {g : Graph} {t : Tables} → Standing limit h g t → tableTotals t ≡ printed limit h []
 unfolding printed
-end-of {a} {t′ = t′} c limit h s =
-    let w = says-of c limit h s in
-    let e : totalsOf (λ r. getD (t′ .status) r 0) ≡ totalsOf (status (afterItem limit h a)) = totals-same (λ r. getD (t′ .status) r 0) (status (afterItem limit h a)) (λ r z. w .1 .fits .status r (omega (arith, w .1 .states))) in
-    (rw (w .0) (ap (λ (n : List ℕ). lineText limit h a ++ n) (ap totalsText e) ∙ sym (printed-told limit h a []) ∙ ap (printed limit h) (append-nil (told a))), w .1)
+totals-say {h = h} {t = t} s = ap totalsText (totals-same (λ r. getD (t .status) r 0) (status h) (λ r z. s .fits .status r (omega (arith, s .states))))

@@ -10,7 +10,7 @@ use Rattle.tables.specs.Tables.{Tables}
 use Rattle.record.specs.Text.{WroteAt}
 use Rattle.record.specs.declared.splitter.Answer.{Answer}
 use Rattle.record.specs.declared.splitter.Splitter.{Splitter}
-use Rattle.record.specs.Splitting.{told, run}
+use Rattle.record.specs.Splitting.{run, afterBytes}
 use Rattle.reader.specs.declared.Outcome.{Outcome}
 use Rattle.reader.specs.declared.Outcome.the-variants.{Nothing, Accepted, Refused}
 use Rattle.reader.specs.Turning.{Came}
@@ -29,9 +29,9 @@ tableText Nothing news status = []
 tableText (Accepted line k) news status = newsText line (λ s. getD status s 0) (take k news)
 tableText (Refused line k) news status = refusedText line k
 
--- The same with the totals behind it.
-abbrev pub endText : Outcome → Tables → List ℕ
-endText o t = tableText o (t .news) (t .status) ++ totalsText (totalsOf (λ s. getD (t .status) s 0))
+-- The totals, by the status table.
+abbrev pub tableTotals : Tables → List ℕ
+tableTotals t = totalsText (totalsOf (λ s. getD (t .status) s 0))
 
 -- The line's number has at most five digits, and the news list has as many entries as there are news, at most 2,048.
 abbrev pub Printable : Outcome → List ℕ → Type 0
@@ -49,20 +49,28 @@ pub record Lists (a : Answer) (g : Graph) (t : Tables) (g′ : Graph) (t′ : Ta
   -- on tables that fit for a legal history: that is the text by the definitions, and the tables fit for the history after the line.
   pub says : (limit : ℕ) (h : History) → Standing limit h g t → (tableText outcome (t′ .news) (t′ .status) ≡ lineText limit h a) × Standing limit (afterItem limit h a) g′ t′
 
--- The end of the record: the text of its last line a, where there is one, and the totals.
-pub record Ends (a : Answer) (g : Graph) (t : Tables) (t′ : Tables) (at : ℕ) (d e : List ℕ) (r : ℕ) : Type 0 where
-  pub graph : Graph
-  pub outcome : Outcome
-  pub came : Came a g t graph t′ outcome
-  pub wrote : WroteAt at (endText outcome t′) d e r
-  pub within : r ≤ length d
-  pub says : (limit : ℕ) (h : History) → Standing limit h g t → (endText outcome t′ ≡ printed limit h (told a)) × Standing limit (afterItem limit h a) graph t′
-
 -- Some lines of a record have been applied, and their text written. s and bytes are the splitter and what it is yet to be fed, before and after.
 pub record Prints (s : Splitter) (bytes : List ℕ) (g : Graph) (t : Tables) (s′ : Splitter) (bytes′ : List ℕ) (g′ : Graph) (t′ : Tables) (at : ℕ) (d e : List ℕ) (r : ℕ) : Type 0 where
   pub text : List ℕ
   pub wrote : WroteAt at text d e r
   pub within : r ≤ length d
+  -- The splitter is where all of the bytes, one by one, would have brought it.
+  pub fed : afterBytes s bytes ≡ afterBytes s′ bytes′
   -- On tables that fit: all that the record prints from here on is this text, and then what it prints from there on. What follows the bytes does not matter.
   pub says : (limit : ℕ) (h : History) → Standing limit h g t →
       (h′ : History) × Standing limit h′ g′ t′ × ((rest : List ℕ) → printed limit h (run s (bytes ++ rest)) ≡ text ++ printed limit h′ (run s′ (bytes′ ++ rest)))
+
+-- The last line has been applied, where the end of the record ends one, and its text written: all that the record prints but for the totals.
+pub record Lasts (s : Splitter) (g : Graph) (t : Tables) (t′ : Tables) (at : ℕ) (d e : List ℕ) (r : ℕ) : Type 0 where
+  pub text : List ℕ
+  pub wrote : WroteAt at text d e r
+  pub within : r ≤ at + lineRoom
+  pub says : (limit : ℕ) (h : History) → Standing limit h g t →
+      (h′ : History) × (g′ : Graph) × Standing limit h′ g′ t′ × (printed limit h (run s []) ≡ text ++ printed limit h′ [])
+
+-- The end of the record: the same with the totals behind it.
+pub record Ends (s : Splitter) (g : Graph) (t : Tables) (t′ : Tables) (at : ℕ) (d e : List ℕ) (r : ℕ) : Type 0 where
+  pub text : List ℕ
+  pub wrote : WroteAt at (text ++ tableTotals t′) d e r
+  pub within : r ≤ length d
+  pub says : (limit : ℕ) (h : History) → Standing limit h g t → text ++ tableTotals t′ ≡ printed limit h (run s [])

@@ -1,11 +1,11 @@
 // The listing of a record, part by part: each line is read and applied, and its text written at a place of a lent buffer.
 ghost use mathlib.Core.Path.{_≡_};
-ghost use Prim.Native.Nat.{ℕ, _≤_, _<_, _+_};
+ghost use Prim.Native.Nat.{ℕ, _≤_, _<_, _+_, _*_};
 ghost use lib.ListN.{length, drop};
 ghost use Rattle.engine.specs.Done.{tablesOf};
 ghost use Rattle.record.specs.Text.{WroteAt};
-ghost use Rattle.record.specs.Splitting.{afterPart, atEnd};
-ghost use Rattle.report.specs.Printing.{lineRoom, tableText, Printable, Lists, Ends, Prints};
+ghost use Rattle.record.specs.Splitting.{afterPart};
+ghost use Rattle.report.specs.Printing.{lineRoom, tableText, Printable, Lists, Prints, Lasts, Ends};
 use crate::text::put_news;
 use crate::text::put_refusal;
 use crate::text::put_totals;
@@ -97,6 +97,7 @@ pub fn list_part(
     requires { ⌜ (index ≤ length (now part)) × (at ≤ length (now buf)) ⌝ }
     ensures { λ r. ⌜ (r .next ≤ length (now (part .entry)))
         × (index < length (now (part .entry)) → at + lineRoom ≤ length (now (buf .entry)) → index < r .next)
+        × (r .end + lineRoom * index ≤ at + lineRoom * r .next)
         × Prints (reader .splitter) (drop index (now (part .entry))) (reader .engine .graph) (tablesOf (now (status .entry)) (now (marks .entry)) (now (from .entry)) (now (to .entry)) (now (successor .entry)) (now (news .entry)) (now («in_head» .entry)) (now («out_head» .entry)) (now (queue .entry)) (now (visited .entry)) (now («in_next» .entry)) (now («out_next» .entry))) (r .reader .splitter) (drop (r .next) (now (part .entry))) (r .reader .engine .graph) (tablesOf (now (status .exit)) (now (marks .exit)) (now (from .exit)) (now (to .exit)) (now (successor .exit)) (now (news .exit)) (now («in_head» .exit)) (now («out_head» .exit)) (now (queue .exit)) (now (visited .exit)) (now («in_next» .exit)) (now («out_next» .exit))) at (now (buf .entry)) (now (buf .exit)) (r .end) ⌝ }
 {
     let mut current = reader;
@@ -136,7 +137,7 @@ pub fn list_part(
     }
 }
 
-// The end of the record: its last line may lack a newline. Its text is followed by the totals.
+// The end of the record: the text of its last line, where that lacks a newline, and the totals.
 pub fn list_end(
     reader: Reader,
     buf: &mut [u8],
@@ -155,9 +156,12 @@ pub fn list_end(
     out_next: &mut [u16],
 ) -> usize
     requires { ⌜ at + (lineRoom + 80) ≤ length (now buf) ⌝ }
-    ensures { λ r. ⌜ Ends (atEnd (reader .splitter)) (reader .engine .graph) (tablesOf (now (status .entry)) (now (marks .entry)) (now (from .entry)) (now (to .entry)) (now (successor .entry)) (now (news .entry)) (now («in_head» .entry)) (now («out_head» .entry)) (now (queue .entry)) (now (visited .entry)) (now («in_next» .entry)) (now («out_next» .entry))) (tablesOf (now (status .exit)) (now (marks .exit)) (now (from .exit)) (now (to .exit)) (now (successor .exit)) (now (news .exit)) (now («in_head» .exit)) (now («out_head» .exit)) (now (queue .exit)) (now (visited .exit)) (now («in_next» .exit)) (now («out_next» .exit))) at (now (buf .entry)) (now (buf .exit)) r ⌝ }
+    ensures { λ r. ⌜ Ends (reader .splitter) (reader .engine .graph) (tablesOf (now (status .entry)) (now (marks .entry)) (now (from .entry)) (now (to .entry)) (now (successor .entry)) (now (news .entry)) (now («in_head» .entry)) (now («out_head» .entry)) (now (queue .entry)) (now (visited .entry)) (now («in_next» .entry)) (now («out_next» .entry))) (tablesOf (now (status .exit)) (now (marks .exit)) (now (from .exit)) (now (to .exit)) (now (successor .exit)) (now (news .exit)) (now («in_head» .exit)) (now («out_head» .exit)) (now (queue .exit)) (now (visited .exit)) (now («in_next» .exit)) (now («out_next» .exit))) at (now (buf .entry)) (now (buf .exit)) r ⌝ }
 {
-    let applied = reader.finish(
+    let end = list_last(
+        reader,
+        buf,
+        at,
         status,
         marks,
         from,
@@ -171,9 +175,54 @@ pub fn list_end(
         in_next,
         out_next,
     );
-    let outcome = applied.outcome;
-    let end = put_outcome(buf, at, outcome, news, status);
     put_totals(buf, end, status)
+}
+
+// Ends the last line with the newline that it lacks. Lines are then listed in one place, whose code is not repeated.
+fn list_last(
+    reader: Reader,
+    buf: &mut [u8],
+    at: usize,
+    status: &mut [u8],
+    marks: &mut [u8],
+    from: &mut [u16],
+    to: &mut [u16],
+    successor: &mut [u16],
+    news: &mut [u16],
+    in_head: &mut [u16],
+    out_head: &mut [u16],
+    queue: &mut [u16],
+    visited: &mut [u16],
+    in_next: &mut [u16],
+    out_next: &mut [u16],
+) -> usize
+    requires { ⌜ at + lineRoom ≤ length (now buf) ⌝ }
+    ensures { λ r. ⌜ Lasts (reader .splitter) (reader .engine .graph) (tablesOf (now (status .entry)) (now (marks .entry)) (now (from .entry)) (now (to .entry)) (now (successor .entry)) (now (news .entry)) (now («in_head» .entry)) (now («out_head» .entry)) (now (queue .entry)) (now (visited .entry)) (now («in_next» .entry)) (now («out_next» .entry))) (tablesOf (now (status .exit)) (now (marks .exit)) (now (from .exit)) (now (to .exit)) (now (successor .exit)) (now (news .exit)) (now («in_head» .exit)) (now («out_head» .exit)) (now (queue .exit)) (now (visited .exit)) (now («in_next» .exit)) (now («out_next» .exit))) at (now (buf .entry)) (now (buf .exit)) r ⌝ }
+{
+    let splitter = reader.splitter;
+    if splitter.pending() {
+        let listed = list_part(
+            reader,
+            b"\n",
+            0,
+            buf,
+            at,
+            status,
+            marks,
+            from,
+            to,
+            successor,
+            news,
+            in_head,
+            out_head,
+            queue,
+            visited,
+            in_next,
+            out_next,
+        );
+        return listed.end;
+    }
+    at
 }
 
 // The text of what came of a line, by the tables after it.

@@ -56,7 +56,7 @@ loop-again c =
     let t : l .next < length (s .args .piece .now) = c .before .before .before .before .before .before .before .before .before .before .before .before .before .before .before .before .before .before .before .before .before .before .before .before .before .before .before .before .before .before .before .before .before .before .before .before .before .before .before .before .before .before .before .loop-test .taken in
     let e : w .result + 40960 ≤ length (l .output) = w .ensures in
     let v = l .inv in
-    let z : p .result .end ≤ length (l .output) = p .ensures .2 .within in
+    let z : p .result .end ≤ length (l .output) = p .ensures .3 .within in
     ((p .kept .1 .1 .1 .1 .1 .0 ∙ v .0 .0, p .kept .1 .1 .1 .1 .1 .1 .0 ∙ v .0 .1, p .kept .1 .1 .1 .1 .1 .1 .1 .0 ∙ v .0 .2, p .kept .1 .1 .1 .1 .1 .1 .1 .1 .0 ∙ v .0 .3, p .kept .1 .1 .1 .1 .1 .1 .1 .1 .1 .0 ∙ v .0 .4, p .kept .1 .1 .1 .1 .1 .1 .1 .1 .1 .1 .0 ∙ v .0 .5, p .kept .1 .1 .1 .1 .1 .1 .1 .1 .1 .1 .1 .0 ∙ v .0 .6, p .kept .1 .1 .1 .1 .1 .1 .1 .1 .1 .1 .1 .1 .0 ∙ v .0 .7, p .kept .1 .1 .1 .1 .1 .1 .1 .1 .1 .1 .1 .1 .1 .0 ∙ v .0 .8, p .kept .1 .1 .1 .1 .1 .1 .1 .1 .1 .1 .1 .1 .1 .1 .0 ∙ v .0 .9, p .kept .1 .1 .1 .1 .1 .1 .1 .1 .1 .1 .1 .1 .1 .1 .1 .0 ∙ v .0 .10, p .kept .1 .1 .1 .1 .1 .1 .1 .1 .1 .1 .1 .1 .1 .1 .1 .1 .0 ∙ v .0 .11), (p .kept .1 .1 .1 .0 ∙ v .1 .0, omega (arith, z, v .1 .0), v .1 .2))
 
 same-length : tie.Need-same-length Inv-loop μ-loop

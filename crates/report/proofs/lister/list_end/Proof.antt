@@ -1,33 +1,26 @@
 -- `list_end` meets its contract.
 -- Assumes nothing.
-use native.Mathlib.Omega.{arith}
 use Prim.Native.Nat.{ℕ, _+_, _≤_}
+use native.Mathlib.Omega.{arith}
 use mathlib.Core.Path.{_≡_}
 use lib.ListN.{length, getD}
 use Rattle.report.specs.Texts.{totalsOf, totalsText}
-use Rattle.report.proofs.Placing.{placed-on, totals-room}
-use Rattle.report.proofs.Saying.{end-place, printable, end-of}
+use Rattle.report.proofs.Placing.{totals-room}
+use Rattle.report.proofs.Session.{ends-by}
 use borrow.Author.Needs.{needs}
 use Rattle.report.proofs.lister.list_end.Statement.{statement}
 use Rattle.report.proofs.lister.list_end.Tie as tie
 
-finish-requires : tie.Need-finish-requires
-finish-requires c κs = search needs
-
-put-outcome-requires : tie.Need-put-outcome-requires
-put-outcome-requires c κs =
-    let s = c .before .before .before .before .before .before .before .before .before .before .before .before .before .before .before .before .before .before .before .before .before .before .before .before .before .before .before .before .before .before .before .before .before .before .before .before .before .before .before .before .before .before .before .before .before .before .before .before .before .before .before .before .before in
-    let w = c .before .before .before .before .before .before .before .before .before .before .before .before .before .before .before .before .before .before .before .before .before .before .before .before .before .before .before .finish .ensures in
-    (printable w (end-place (s .args .reader .splitter)), omega arith)
+list-last-requires : tie.Need-list-last-requires
+list-last-requires c κs = search needs
 
 put-totals-requires : tie.Need-put-totals-requires
 put-totals-requires c κs =
-    let s = c .before .before .before .before .before .before .before .before .before .before .before .before .before .before .before .before .before .before .before .before .before .before .before .before .before .before .before .before .before .before .before .before .before .before .before .before .before .before .before .before .before .before .before .before .before .before .before .before .before .before .before .before .before .before .before .before .before .before in
-    let p = c .before .before .before .before .put-outcome in
-    let a : p .result ≤ s .args .at + 34816 = p .ensures .1 in
-    let b : length (p .last .0) ≡ length (s .args .buf .now) = p .kept .0 in
-    let d : s .args .at + 34896 ≤ length (s .args .buf .now) = s .pre in
-    let z : p .result + 80 ≤ length (p .last .0) = omega (arith, a, b, d) in
+    let p = c .before .before .before .before .before .before .before .before .before .before .before .before .before .before .before .before .before .before .before .before .before .before .before .before .before .before .before .before .list-last in
+    let a : p .result ≤ c .before .before .before .before .before .before .before .before .before .before .before .before .before .before .before .before .before .before .before .before .before .before .before .before .before .before .before .before .before .before .before .before .before .before .before .before .before .before .before .before .before .before .before .before .before .before .before .before .before .before .before .before .before .before .before .args .at + 34816 = p .ensures .within in
+    let b : length (p .last .1 .0) ≡ length (c .before .before .before .before .before .before .before .before .before .before .before .before .before .before .before .before .before .before .before .before .before .before .before .before .before .before .before .before .before .before .before .before .before .before .before .before .before .before .before .before .before .before .before .before .before .before .before .before .before .before .before .before .before .before .before .args .buf .now) = p .kept .1 .0 in
+    let d : c .before .before .before .before .before .before .before .before .before .before .before .before .before .before .before .before .before .before .before .before .before .before .before .before .before .before .before .before .before .before .before .before .before .before .before .before .before .before .before .before .before .before .before .before .before .before .before .before .before .before .before .before .before .before .before .args .at + 34896 ≤ length (c .before .before .before .before .before .before .before .before .before .before .before .before .before .before .before .before .before .before .before .before .before .before .before .before .before .before .before .before .before .before .before .before .before .before .before .before .before .before .before .before .before .before .before .before .before .before .before .before .before .before .before .before .before .before .before .args .buf .now) = c .before .before .before .before .before .before .before .before .before .before .before .before .before .before .before .before .before .before .before .before .before .before .before .before .before .before .before .before .before .before .before .before .before .before .before .before .before .before .before .before .before .before .before .before .before .before .before .before .before .before .before .before .before .before .before .pre in
+    let z : p .result + 80 ≤ length (p .last .1 .0) = omega (arith, a, b, d) in
     z
 
 same-length : tie.Need-same-length
@@ -71,23 +64,19 @@ same-length-13 c = search needs
 
 returns : tie.Need-returns
 returns c =
-    let s = c .before .before .before .before .before .before .before .before .before .before .before .before .before .before .before .before .before .before .before .before .before .before .before .before .before .before .before .before .before .before .before .before .before .before .before .before .before .before .before .before .before .before .before .before .before .before .before .before .before .before .before .before .before .before .before .before .before .before .before .before .before in
-    let w = c .before .before .before .before .before .before .before .before .before .before .before .before .before .before .before .before .before .before .before .before .before .before .before .before .before .before .before .before .before .before .before .before .before .before .before .finish in
-    let p = c .before .before .before .before .before .before .before .put-outcome in
+    let p = c .before .before .before .before .before .before .before .before .before .before .before .before .before .before .before .before .before .before .before .before .before .before .before .before .before .before .before .before .before .before .before .list-last in
     let o = c .before .before .put-totals in
-    let f : ℕ → ℕ = λ x. getD (w .last .1 .0) x 0 in
-    let m : p .result ≤ s .args .at + 34816 = p .ensures .1 in
-    let n : s .args .at + 34896 ≤ length (s .args .buf .now) = s .pre in
+    let f : ℕ → ℕ = λ x. getD (p .last .1 .1 .1 .0) x 0 in
+    let a : p .result ≤ c .before .before .before .before .before .before .before .before .before .before .before .before .before .before .before .before .before .before .before .before .before .before .before .before .before .before .before .before .before .before .before .before .before .before .before .before .before .before .before .before .before .before .before .before .before .before .before .before .before .before .before .before .before .before .before .before .before .before .args .at + 34816 = p .ensures .within in
+    let d : c .before .before .before .before .before .before .before .before .before .before .before .before .before .before .before .before .before .before .before .before .before .before .before .before .before .before .before .before .before .before .before .before .before .before .before .before .before .before .before .before .before .before .before .before .before .before .before .before .before .before .before .before .before .before .before .before .before .before .args .at + 34896 ≤ length (c .before .before .before .before .before .before .before .before .before .before .before .before .before .before .before .before .before .before .before .before .before .before .before .before .before .before .before .before .before .before .before .before .before .before .before .before .before .before .before .before .before .before .before .before .before .before .before .before .before .before .before .before .before .before .before .before .before .before .args .buf .now) = c .before .before .before .before .before .before .before .before .before .before .before .before .before .before .before .before .before .before .before .before .before .before .before .before .before .before .before .before .before .before .before .before .before .before .before .before .before .before .before .before .before .before .before .before .before .before .before .before .before .before .before .before .before .before .before .before .before .before .pre in
     let k : o .result ≡ p .result + length (totalsText (totalsOf f)) = o .ensures .after in
-    let z : o .result ≤ length (s .args .buf .now) = omega (arith, m, n, k, totals-room f) in
-    record { graph = w .result .engine .graph; outcome = w .result .outcome; came = w .ensures; wrote = placed-on (p .ensures .0) (o .ensures) z; within = z; says = end-of (w .ensures) }
+    ends-by (p .ensures) (o .ensures) (omega (arith, a, d, k, totals-room f))
 
 pub list-end-spec : {M : Type 1} → statement M
 list-end-spec =
     tie.close
     (tie.spec
-    finish-requires
-    put-outcome-requires
+    list-last-requires
     put-totals-requires
     same-length
     same-length-2

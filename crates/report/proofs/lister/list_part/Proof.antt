@@ -1,6 +1,6 @@
 -- `list_part` meets its contract. The invariant: the tables keep their lengths, the index goes on, or nothing was written yet, and what was written is what the bytes passed print.
 -- Assumes nothing.
-use Prim.Native.Nat.{ℕ, _+_, _-_, _≤_, _<_}
+use Prim.Native.Nat.{ℕ, _+_, _*_, _-_, _≤_, _<_}
 use native.Mathlib.Omega.{arith}
 use mathlib.Core.Path.{_≡_, refl, _∙_}
 use mathlib.Core.Logic.{_⊎_, inl, inr, ⊎-elim}
@@ -16,7 +16,7 @@ use Rattle.report.proofs.lister.list_part.Tie as tie
 abbrev Inv-loop : tie.InvT-loop
 Inv-loop part index buf₀ at status₀ marks₀ from₀ to₀ successor₀ news₀ in-head₀ out-head₀ queue₀ visited₀ in-next₀ out-next₀ current₀ next₀ end₀ buf status marks from to successor news in-head out-head queue visited in-next out-next current next end =
     ((length status ≡ length status₀) × (length marks ≡ length marks₀) × (length from ≡ length from₀) × (length to ≡ length to₀) × (length successor ≡ length successor₀) × (length news ≡ length news₀) × (length in-head ≡ length in-head₀) × (length out-head ≡ length out-head₀) × (length queue ≡ length queue₀) × (length visited ≡ length visited₀) × (length in-next ≡ length in-next₀) × (length out-next ≡ length out-next₀))
-    × ((length buf ≡ length buf₀) × (next ≤ length part) × ((index < next) ⊎ ((next ≡ index) × (end ≡ at))))
+    × ((length buf ≡ length buf₀) × (next ≤ length part) × ((index < next) ⊎ ((next ≡ index) × (end ≡ at))) × (end + 34816 * index ≤ at + 34816 * next))
     × Prints (current₀ .splitter) (drop index part) (current₀ .engine .graph) (tablesOf status₀ marks₀ from₀ to₀ successor₀ news₀ in-head₀ out-head₀ queue₀ visited₀ in-next₀ out-next₀) (current .splitter) (drop next part) (current .engine .graph) (tablesOf status marks from to successor news in-head out-head queue visited in-next out-next) at buf₀ buf end
 
 abbrev μ-loop : tie.MeasureT-loop
@@ -28,7 +28,7 @@ loop-holds c =
     let s = c .before .before .before .before .before .before .before .before .before .before .before .before .before .before in
     let a = s .args in (
       (refl, refl, refl, refl, refl, refl, refl, refl, refl, refl, refl, refl),
-      (refl, s .pre .0, inr (refl, refl)),
+      (refl, s .pre .0, inr (refl, refl), omega arith),
       prints-none (a .reader .splitter) (drop (a .index) (a .part .now)) (a .reader .engine .graph) (tablesOf (a .status .now) (a .marks .now) (a .from .now) (a .to .now) (a .successor .now) (a .news .now) (a .in-head .now) (a .out-head .now) (a .queue .now) (a .visited .now) (a .in-next .now) (a .out-next .now)) (a .at) (a .buf .now) (s .pre .1),
     )
 
@@ -64,7 +64,7 @@ loop-again c =
     let k : w .result .end ≤ l .end + 34816 = w .ensures .2 .within in
     let m : w .result .end ≤ length (s .args .buf .now) = omega (arith, k, t, v .1 .0, v .2 .within) in (
       (w .kept .1 .1 .1 .1 .1 .0 ∙ v .0 .0, w .kept .1 .1 .1 .1 .1 .1 .0 ∙ v .0 .1, w .kept .1 .1 .1 .1 .1 .1 .1 .0 ∙ v .0 .2, w .kept .1 .1 .1 .1 .1 .1 .1 .1 .0 ∙ v .0 .3, w .kept .1 .1 .1 .1 .1 .1 .1 .1 .1 .0 ∙ v .0 .4, w .kept .1 .1 .1 .1 .1 .1 .1 .1 .1 .1 .0 ∙ v .0 .5, w .kept .1 .1 .1 .1 .1 .1 .1 .1 .1 .1 .1 .0 ∙ v .0 .6, w .kept .1 .1 .1 .1 .1 .1 .1 .1 .1 .1 .1 .1 .0 ∙ v .0 .7, w .kept .1 .1 .1 .1 .1 .1 .1 .1 .1 .1 .1 .1 .1 .0 ∙ v .0 .8, w .kept .1 .1 .1 .1 .1 .1 .1 .1 .1 .1 .1 .1 .1 .1 .0 ∙ v .0 .9, w .kept .1 .1 .1 .1 .1 .1 .1 .1 .1 .1 .1 .1 .1 .1 .1 .0 ∙ v .0 .10, w .kept .1 .1 .1 .1 .1 .1 .1 .1 .1 .1 .1 .1 .1 .1 .1 .1 .0 ∙ v .0 .11),
-      (w .kept .1 .1 .1 .0 ∙ v .1 .0, omega (arith, q, z), inl (⊎-elim (λ x. omega (arith, q, z)) (λ x. omega (arith, q, z)) (v .1 .2))),
+      (w .kept .1 .1 .1 .0 ∙ v .1 .0, omega (arith, q, z), inl (⊎-elim (λ x. omega (arith, q, z)) (λ x. omega (arith, q, z)) (v .1 .2)), omega (arith, q, z, k, v .1 .3)),
       prints-by (s .args .part .now) (l .next) (w .result .next) (v .2) z (w .ensures .1) (w .ensures .2) m,
     )
 
@@ -111,7 +111,7 @@ returns : tie.Need-returns Inv-loop μ-loop
 returns c =
     let v = c .before .loop .inv in
     let t = c .loop-test .left in
-    (v .1 .1, λ p q. ⊎-elim (λ x. x) (λ x. absurd (omega (arith, p, t, x))) (v .1 .2), v .2)
+    (v .1 .1, λ p q. ⊎-elim (λ x. x) (λ x. absurd (omega (arith, p, t, x))) (v .1 .2), v .1 .3, v .2)
 
 same-length-14 : tie.Need-same-length-14 Inv-loop μ-loop
 same-length-14 c = c .before .before .loop .inv .1 .0
@@ -156,7 +156,7 @@ returns-2 : tie.Need-returns-2 Inv-loop μ-loop
 returns-2 c =
     let v = c .before .before .loop .inv in
     let t = c .if1 .taken in
-    (v .1 .1, λ p q. ⊎-elim (λ x. x) (λ x. absurd (omega (arith, q, t, x, v .1 .0))) (v .1 .2), v .2)
+    (v .1 .1, λ p q. ⊎-elim (λ x. x) (λ x. absurd (omega (arith, q, t, x, v .1 .0))) (v .1 .2), v .1 .3, v .2)
 
 pub list-part-spec : {M : Type 1} → statement M
 list-part-spec =

@@ -1,7 +1,7 @@
 -- `ended` meets its contract.
 -- Assumes nothing.
 use Rattle.record.specs.Splitting.{afterLine}
-use borrow.Author.Tests.{eq-eqb, ne-eqb}
+use borrow.Author.Tests.{le-leb, lt-leb}
 use borrow.Author.Needs.{needs}
 use Rattle.record.proofs.splitter.Splitter.ended.Statement.{statement}
 use Rattle.record.proofs.splitter.Splitter.ended.Tie as tie
@@ -18,11 +18,11 @@ further-line-requires c κs = search needs
 
 returns-2 : tie.Need-returns-2
 unfolding afterLine
-returns-2 c = rw (c .before .before .before .before .if1 .left, eq-eqb (c .before .before .before .before .before .args .self .number) 1 (c .before .if2 .taken)) (c .first-line .ensures)
+returns-2 c = rw (c .before .before .before .before .if1 .left, le-leb (c .before .before .before .before .before .args .self .number) 1 (c .before .if2 .taken)) (c .first-line .ensures)
 
 returns-3 : tie.Need-returns-3
 unfolding afterLine
-returns-3 c = rw (c .before .before .before .before .if1 .left, ne-eqb (c .before .before .before .before .before .args .self .number) 1 (c .before .if2 .left)) (c .further-line .ensures)
+returns-3 c = rw (c .before .before .before .before .if1 .left, lt-leb (c .before .before .before .before .before .args .self .number) 1 (c .before .if2 .left)) (c .further-line .ensures)
 
 pub ended-spec : {M : Type 1} → statement M
 ended-spec =

@@ -1,22 +1,25 @@
 -- `finish` meets its contract.
 -- Assumes nothing.
+use mathlib.Core.Path.{sym, _∙_, ap}
+use Rattle.record.specs.declared.splitter.Fed.{Fed}
 use Rattle.record.specs.Splitting.{atEnd}
-use borrow.Author.Tests.{eq-eqb, ne-eqb}
-use mathlib.Core.Logic.{⊎-elim}
 use borrow.Author.Needs.{needs}
 use Rattle.record.proofs.splitter.Splitter.finish.Statement.{statement}
 use Rattle.record.proofs.splitter.Splitter.finish.Tie as tie
 
-returns : tie.Need-returns
-unfolding atEnd
-returns c = rw (eq-eqb (c .before .before .before .before .before .args .self .line .len) 0 (c .before .before .if1 .taken), ne-eqb (c .before .before .before .before .before .args .self .number) 1 (c .if2 .taken))
+pending-requires : tie.Need-pending-requires
+pending-requires c κs = search needs
 
 ended-requires : tie.Need-ended-requires
 ended-requires c κs = search needs
 
+returns : tie.Need-returns
+unfolding atEnd
+returns c = rw (sym (c .before .before .pending .ensures) ∙ c .before .if1 .taken) (ap (λ (f : Fed). f .answer) (c .ended .ensures))
+
 returns-2 : tie.Need-returns-2
 unfolding atEnd
-returns-2 c = ⊎-elim (λ w. rw (eq-eqb (c .before .before .before .before .args .self .line .len) 0 (w .0 .taken), eq-eqb (c .before .before .before .before .args .self .number) 1 (w .2 .left), c .ended .ensures)) (λ w. rw (ne-eqb (c .before .before .before .before .args .self .line .len) 0 (w .left), c .ended .ensures)) (c .before .if1 .came)
+returns-2 c = rw (sym (c .before .pending .ensures) ∙ c .if1 .left)
 
 pub finish-spec : {M : Type 1} → statement M
-finish-spec = tie.close (tie.spec returns ended-requires returns-2)
+finish-spec = tie.close (tie.spec pending-requires ended-requires returns returns-2)
