@@ -198,13 +198,14 @@ Update shown_update;
 static void show_update(Update u)
 {
     if (u.kind == 'E') printf(" E %zu %zu", u.first, u.second);
-    else printf(" %c %zu -", u.kind, u.first);
+    else if (u.kind == 'T' || u.kind == 'C') printf(" %c %zu -", u.kind, u.first);
+    else printf(" of kind %u", u.kind);
 }
 
 void show_run(void)
 {
     if (!shown_lent) return;
-    printf("  n %zu, limit %zu, %zu steps, call %lu, update", shown_lent->n, shown_lent->limit, shown_lent->steps_before[1], calls_made);
+    printf("  n %zu, limit %zu, %zu steps, call %lu, last update", shown_lent->n, shown_lent->limit, shown_lent->steps_before[1], calls_made);
     show_update(shown_update);
     printf("\n");
     if (!shown_history || shown_history->count > 40) return;
