@@ -2,29 +2,13 @@
 // algorithm in plain C and the naive engine, all in one process. Prints tables, and writes the same to the file named by its argument.
 #include "../include/radvoinis.h"
 #include "engines.h"
-#include <stdarg.h>
+#include "page.h"
 #include <stdio.h>
 #include <stdlib.h>
 #include <string.h>
 #include <time.h>
-#include <unistd.h>
 
 enum { RUNS = 41, MOST_UPDATES = MAX_STEPS + 2 * MAX_STATES };
-
-// ---- output, to the terminal and to the file
-
-static FILE *file;
-
-static void out(const char *format, ...)
-{
-    va_list args;
-    va_start(args, format);
-    vprintf(format, args);
-    va_end(args);
-    va_start(args, format);
-    vfprintf(file, format, args);
-    va_end(args);
-}
 
 // ---- random numbers, the same in every run
 
@@ -240,18 +224,6 @@ __attribute__((noinline)) static uint32_t empty_update(PARAMETERS)
 
 // ---- measuring
 
-static int compare(const void *a, const void *b)
-{
-    double x = *(const double *)a, y = *(const double *)b;
-    return (x > y) - (x < y);
-}
-
-static double median(double *times, size_t k)
-{
-    qsort(times, k, sizeof *times, compare);
-    return times[k / 2];
-}
-
 // Nanoseconds in all for some lists; `naive` is over the updates that the naive engine was sent.
 typedef struct {
     double proved, plain, naive, moves, worst_moves;
@@ -328,12 +300,6 @@ static void heading(const char *first, const char *second)
 
 static Sum cells[CLASSES][ORDERS][ENDINGS];
 
-// Says on a terminal what is being measured.
-static void progress(const char *what, const char *how)
-{
-    if (isatty(2)) fprintf(stderr, "\r%-70s\r%s %s", "", what, how);
-}
-
 static void measure_classes(void)
 {
     for (int c = 0; c < CLASSES; c++)
@@ -352,8 +318,6 @@ static Sum class_sum(int c)
         for (int e = 0; e < ENDINGS; e++) add(&sum, cells[c][o][e]);
     return sum;
 }
-
-static void goal(const char *what, double value, int met) { out("- %s: %.2f, %s\n", what, value, met ? "met" : "MISSED"); }
 
 static void show_worst_list(double moves)
 {
@@ -448,8 +412,7 @@ static const char *processor(void)
 
 int main(int argc, char **argv)
 {
-    file = fopen(argc > 1 ? argv[1] : "/dev/null", "w");
-    if (!file) return perror(argv[1]), 2;
+    open_page(argc > 1 ? argv[1] : NULL, "w");
     out("# Benchmark\n\n`bench/run.sh` made this page, with gcc " __VERSION__ " -O2 for the C, on %s.\n\n", processor());
     out("Columns: nanoseconds an update for the proved engine, for the same algorithm in plain C and for the naive engine, which works all\n"
         "verdicts out afresh after each update; their ratios; list moves (next entries and successors read) an update of the C, and of its\n"
@@ -461,5 +424,5 @@ int main(int argc, char **argv)
     show_classes();
     show_lists();
     show_growth();
-    return fclose(file) != 0;
+    return close_page();
 }
