@@ -10,13 +10,13 @@ use native.Mathlib.Decide.{ℕ-discrete}
 use lib.ListN.{length, getD, length-set}
 use lib.Seq.{getD-set-same, getD-set-other}
 use Rattle.tables.specs.Work.{marked}
-use Rattle.adjacency.specs.Walks.{firstAt, nextAt, Meets, now′, later, Linked}
-use Rattle.adjacency.proofs.Walks.{meets-none, meets-step}
+use Rattle.adjacency.specs.Walks.{firstAt, nextAt, Linked}
 use Rattle.search.specs.declared.spread.Span.{Span}
 use Rattle.search.specs.Spreading.{Arcs, Reached, back}
 use Rattle.search.specs.Releasing.{Before}
 use Rattle.search.specs.Offering.{unvisited, Admitted, Offered, passed, taken, Spreading, Offers, source, Visited, Closed}
 use Rattle.search.proofs.Counting.{kept-trans, kept-set}
+use Rattle.search.proofs.Walking.{Walking, walk-first, walk-here, walk-next, walk-end, walk-done}
 use Rattle.search.proofs.Marking.{marked-mark, marked-mark-other, length-mark, kept-mark, unvisited-mark, mark-grows}
 
 module _ (a : Arcs) (ok : ℕ → ℕ → Bool) (i : ℕ) {v q v′ q′ : List ℕ} {s s′ : Span} (room : s .len + unvisited (a .n) v ≤ a .n) (inV : a .n ≤ length v) (inQ : a .n ≤ length q) where
@@ -113,41 +113,27 @@ module _ {a : Arcs} {ok : ℕ → ℕ → Bool} {x : ℕ} {v q : List ℕ} {s : 
       inQ′ : a .n ≤ length q′
       inQ′ = let e = o .queues in omega arith
 
--- A walk over the steps into x that stands at p: each of them is still to be met, or its source has been offered.
-pub record Walking (a : Arcs) (ok : ℕ → ℕ → Bool) (x : ℕ) (v q : List ℕ) (s : Span) (v′ q′ : List ℕ) (s′ : Span) (p : ℕ) : Type 0 where
+-- A walk over the steps into x that stands at p: the source of each step passed has been offered.
+pub record OfferWalk (a : Arcs) (ok : ℕ → ℕ → Bool) (x : ℕ) (v q : List ℕ) (s : Span) (v′ q′ : List ℕ) (s′ : Span) (p : ℕ) : Type 0 where
   pub offers : Offers a ok x v q s v′ q′ s′
-  pub inside : p ≤ a .m
-  pub ahead : (i : ℕ) → Meets (a .next) i p → Linked (a .head) (a .next) (a .m) x i
-  pub behind : (i : ℕ) → Linked (a .head) (a .next) (a .m) x i → Meets (a .next) i p ⊎ Visited a ok v′ i
+  pub walk : Walking (a .head) (a .next) (a .m) x (Visited a ok v′) p
 
 module _ {a : Arcs} {ok : ℕ → ℕ → Bool} {x : ℕ} {v q : List ℕ} {s : Span} where
-  pub walking-first : {p : ℕ} → s .len + unvisited (a .n) v ≤ a .n → p ≡ firstAt (a .head) (a .m) x → p ≤ a .m → Walking a ok x v q s v q s p
-  walking-first room e h = record {
-    offers = offers-none room;
-    inside = h;
-    ahead = λ i m. rw e at m;
-    behind = λ i l. inl (rw e l);
-  }
+  pub offer-first : {p : ℕ} → s .len + unvisited (a .n) v ≤ a .n → p ≡ firstAt (a .head) (a .m) x → OfferWalk a ok x v q s v q s p
+  offer-first room e = record { offers = offers-none room; walk = walk-first e }
 
-  pub walking-next : {v′ q′ v″ q″ : List ℕ} {s′ s″ : Span} {p p′ : ℕ} → Walking a ok x v q s v′ q′ s′ p → 0 < p → p′ ≡ nextAt (a .next) p → p′ < p → a .n ≤ length v → a .n ≤ length q → Offered (a .n) (ok (source a (p - 1)) (p - 1)) (source a (p - 1)) v′ q′ s′ v″ q″ s″ → Walking a ok x v q s v″ q″ s″ p′
-  walking-next {v′} {q′} {p} w h e less inV inQ o = record {
-    offers = offers-more (p - 1) (w .offers) (w .ahead (p - 1) (now′ back-one)) inV inQ o;
-    inside = let i = w .inside in omega arith;
-    ahead = λ i m. w .ahead i (rw back-one (later (rw (e, back-one) at m)));
-    behind = λ i l. ⊎-elim (λ m. ⊎-elim (λ z. inr (rw z (offered-visited a ok (p - 1) (w .offers .room) inV′ inQ′ o))) (λ z. inl (rw (e, back-one) z)) (meets-step (rw back-one at m))) (λ z. inr (λ k t. offered-grows a ok (p - 1) (w .offers .room) inV′ inQ′ o (source a i) (z k t))) (w .behind i l);
-  }
+  pub offer-next : {v′ q′ v″ q″ : List ℕ} {s′ s″ : Span} {p p′ : ℕ} → OfferWalk a ok x v q s v′ q′ s′ p → 0 < p → p′ ≡ nextAt (a .next) p → a .n ≤ length v → a .n ≤ length q → Offered (a .n) (ok (source a (p - 1)) (p - 1)) (source a (p - 1)) v′ q′ s′ v″ q″ s″ → OfferWalk a ok x v q s v″ q″ s″ p′
+  offer-next {v′} {q′} {p = p} w h e inV inQ o =
+      record {
+        offers = offers-more (p - 1) (w .offers) (walk-here (w .walk) h) inV inQ o;
+        walk = walk-next (walk-done (w .walk) (λ i z k t. offered-grows a ok (p - 1) (w .offers .room) inV′ inQ′ o (source a i) (z k t))) h e (offered-visited a ok (p - 1) (w .offers .room) inV′ inQ′ o);
+      }
     where
-      back-one : p ≡ suc (p - 1)
-      back-one = omega arith
-
       inV′ : a .n ≤ length v′
       inV′ = let e = w .offers .visits in omega arith
 
       inQ′ : a .n ≤ length q′
       inQ′ = let e = w .offers .queues in omega arith
 
-  pub walking-last : {v′ q′ : List ℕ} {s′ : Span} {p : ℕ} → Walking a ok x v q s v′ q′ s′ p → p ≤ 0 → Closed a ok v′ x
-  walking-last {p} w h i l = ⊎-elim (λ m. absurd (meets-none (rw z at m))) (λ d. d) (w .behind i l)
-    where
-      z : p ≡ 0
-      z = omega arith
+  pub offer-last : {v′ q′ : List ℕ} {s′ : Span} {p : ℕ} → OfferWalk a ok x v q s v′ q′ s′ p → p ≤ 0 → Closed a ok v′ x
+  offer-last w h = walk-end (w .walk) h
