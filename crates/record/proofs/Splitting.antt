@@ -80,7 +80,8 @@ unbroken-more : {l : List ℕ} {b : ℕ} → (b ≡ 10 → ⊥) → Unbroken l �
 unbroken-more n none′ = more n none′
 unbroken-more n (more m u) = more m (unbroken-more n u)
 
-lines-break : {l : List ℕ} (s : List ℕ) → Unbroken l → lines (l ++ (10 ∷ s)) ≡ l ∷ lines s
+-- A text with no newline, ended by one, is a line.
+pub lines-break : {l : List ℕ} (s : List ℕ) → Unbroken l → lines (l ++ (10 ∷ s)) ≡ l ∷ lines s
 unfolding lines
 lines-break s none′ = refl
 lines-break s (more {b = b} {l = l} n u) = rw (ne-eqb b 10 n, lines-break s u)

@@ -7,7 +7,7 @@ use Prim.Native.Nat.{ℕ, zero, suc, _+_, _/_, _%_, _≤_, _<_}
 use native.Mathlib.Omega.{arith}
 use native.Mathlib.Decide.{decLt}
 use lib.ListN.{length, getD, length-append, length-map}
-use borrow.Author.Tests.{ne-eqb, le-leb}
+use borrow.Author.Tests.{le-leb}
 use Rattle.gid.specs.declared.Update.{Update}
 use Rattle.gid.specs.declared.Update.the-variants.{Step, Terminal, Close}
 use Rattle.gid.specs.News.{below}
@@ -18,17 +18,11 @@ use Rattle.record.specs.Lines.{lines}
 use Rattle.record.specs.Items.{same, further, all, items}
 use Rattle.record.proofs.Decimals.{decimal-digit, decimal-more}
 use Rattle.record.proofs.Reading.{line-back}
-use Rattle.record.proofs.Splitting.{Unbroken, none′, more}
+use Rattle.record.proofs.Splitting.{Unbroken, none′, more, lines-break}
 use Rattle.writer.specs.declared.marking.Mark.{Mark}
 use Rattle.writer.specs.declared.marking.Mark.the-variants.{Terminal as ForTerminal, Close as ForClose}
 use Rattle.writer.specs.Order.{hasMark, marking, markedLines, stepLines, writtenUpdates, bytesOf, recordOf}
 use Rattle.writer.specs.Rereading.{numbered}
-
--- a text with no newline, ended by one, is a line
-lines-break : {l : List ℕ} (s : List ℕ) → Unbroken l → lines (l ++ (10 ∷ s)) ≡ l ∷ lines s
-unfolding lines
-lines-break s none′ = refl
-lines-break s (more {b = b} {l = l} n u) = rw (ne-eqb b 10 n, lines-break s u)
 
 -- a byte that is no newline
 byte : (b : ℕ) {l : List ℕ} → 10 < b → Unbroken l → Unbroken (b ∷ l)
