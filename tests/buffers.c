@@ -235,9 +235,7 @@ static void group_runs_small(void)
     write_one_in = 8;
     for (size_t i = 0; i < rounds(400) && !failed; i++) {
         progress(i, rounds(400));
-        if (i % 4 == 0) chain_run(&written, 2 + below(10), below(3), 2 * below(4), one_in(2) ? 10 : 0);
-        else if (i % 4 == 1) graph_run(&written, 2 + below(10), 1 + below(40));
-        else mixed_run(&written, 1 + below(12), 1 + below(24), 10 + below(50));
+        small_run(&written, i);
     }
 }
 
@@ -248,9 +246,7 @@ static void group_runs_large(void)
         size_t n = i % 8 == 0 ? 2048 - below(3) : 13 + below(one_in(3) ? 1000 : 100);
         progress(i, rounds(16));
         write_one_in = 4 * n;
-        if (i % 3 == 0) mixed_run(&written, n, i % 2 ? 8192 - below(3) : 1 + below(2048), 4 * n);
-        else if (i % 3 == 1) chain_run(&written, n, below(3), 2 * below(30), one_in(2) ? 50 : 0);
-        else graph_run(&written, n, one_in(2) ? 2048 : 4 * n);
+        large_run(&written, i, n, one_in(2) ? 2048 : one_in(2) ? 8192 - below(3) : 1 + below(2048));
         if (!failed) hold_round_trip(&lent_a, 1, n < 128 ? MOST_STATES : 64);
     }
     write_one_in = MOST_STEPS;

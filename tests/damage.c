@@ -459,9 +459,7 @@ static void group_damage_small(void)
     damage_one_in = 3;
     for (size_t i = 0; i < rounds(8000) && !failed; i++) {
         progress(i, rounds(8000));
-        if (i % 4 == 0) chain_run(&copied, 2 + below(10), below(3), 2 * below(4), one_in(2) ? 10 : 0);
-        else if (i % 4 == 1) graph_run(&copied, 2 + below(10), 1 + below(40));
-        else mixed_run(&copied, 1 + below(12), 1 + below(24), 10 + below(50));
+        small_run(&copied, i);
     }
 }
 
@@ -471,9 +469,7 @@ static void group_damage_large(void)
         size_t n = i % 20 < 3 ? 2048 - below(3) : 13 + below(one_in(3) ? 1000 : 100);
         progress(i, rounds(120));
         damage_one_in = 1 + n / 16;
-        if (i % 3 == 0) mixed_run(&copied, n, i % 20 < 3 ? 8192 - below(3) : 1 + below(4 * n), 4 * n);
-        else if (i % 3 == 1) chain_run(&copied, n, below(3), 2 * below(30), one_in(2) ? 50 : 0);
-        else graph_run(&copied, n, 4 * n);
+        large_run(&copied, i, n, i % 20 < 3 ? 8192 - below(3) : 1 + below(4 * n));
     }
 }
 

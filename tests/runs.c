@@ -174,6 +174,20 @@ void graph_run(Run *r, size_t n, size_t limit)
     }
 }
 
+void small_run(Run *r, size_t i)
+{
+    if (i % 4 == 0) chain_run(r, 2 + below(10), below(3), 2 * below(4), one_in(2) ? 10 : 0);
+    else if (i % 4 == 1) graph_run(r, 2 + below(10), 1 + below(40));
+    else mixed_run(r, 1 + below(12), 1 + below(24), 10 + below(50));
+}
+
+void large_run(Run *r, size_t i, size_t n, size_t limit)
+{
+    if (i % 3 == 0) mixed_run(r, n, limit, 4 * n);
+    else if (i % 3 == 1) chain_run(r, n, below(3), 2 * below(30), one_in(2) ? 50 : 0);
+    else graph_run(r, n, limit);
+}
+
 void full_list_run(Run *r, size_t near)
 {
     size_t order[MOST_STATES], n = MOST_STATES;

@@ -54,6 +54,10 @@ void chain_run(Run *r, size_t n, size_t how, size_t extra, size_t skip);
 // A random graph with some steps out of each state, read state by state, or all steps first; then the last states one after the other.
 void graph_run(Run *r, size_t n, size_t limit);
 
+// The i-th of a series of runs of all kinds: of up to 12 states, and of n states with a list of at most so many steps.
+void small_run(Run *r, size_t i);
+void large_run(Run *r, size_t i, size_t n, size_t limit);
+
 // As many states and steps as there can be, then one step more, and a verdict for each state.
 void full_list_run(Run *r, size_t near);
 
