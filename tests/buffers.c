@@ -298,14 +298,7 @@ static void group_lengths(void)
 static void hold_short(Lent *l) { hold_at(l, below(40), below(2)); }
 static void hold_some(Lent *l) { hold_at(l, below(200), below(200)); }
 
-static void group_refusals(void)
-{
-    static const size_t sizes[5][2] = {{1, 1}, {2, 3}, {7, 5}, {2047, 8191}, {2048, 8192}};
-    shown_history = NULL;
-    for (size_t i = 0; i < 5; i++) each_short(&lent_a, sizes[i][0], sizes[i][1], hold_short);
-    each_value(&lent_a, 8, 8, hold_some);
-    each_value(&lent_a, 2048, 8192, hold_some);
-}
+static void group_refusals(void) { each_refusal(&lent_a, hold_short, hold_some); }
 
 // Places and buffer lengths up to the largest number. The buffer is told longer than it is; what is there is enough.
 static void group_places(void)

@@ -568,14 +568,7 @@ static void group_written(void)
 
 static void hold(Lent *l) { fit(l); }
 
-static void group_refusals(void)
-{
-    static const size_t sizes[5][2] = {{1, 1}, {2, 3}, {7, 5}, {2047, 8191}, {2048, 8192}};
-    shown_history = NULL;
-    for (size_t i = 0; i < 5; i++) each_short(&lent_a, sizes[i][0], sizes[i][1], hold);
-    each_value(&lent_a, 8, 8, hold);
-    each_value(&lent_a, 2048, 8192, hold);
-}
+static void group_refusals(void) { each_refusal(&lent_a, hold, hold); }
 
 static void group_contents(void)
 {

@@ -2,6 +2,7 @@
 #include "wild.h"
 #include "groups.h"
 #include "random.h"
+#include "runs.h"
 
 const size_t edges[EDGES] = {
     0, 1, 2, 3, 7, 8, 9, 255, 256, 2047, 2048, 2049, 4096, 8191, 8192, 8193, 65535, 65536, 65537, 65544, 0x7fffffff, 0x80000000,
@@ -99,4 +100,13 @@ void each_value(Lent *l, size_t n, size_t limit, void (*call)(Lent *l))
         l->n = edges[i / EDGES / EDGES], l->limit = edges[i / EDGES % EDGES], l->steps[1] = edges[i % EDGES];
         call(l);
     }
+}
+
+void each_refusal(Lent *l, void (*shortened)(Lent *l), void (*valued)(Lent *l))
+{
+    static const size_t sizes[5][2] = {{1, 1}, {2, 3}, {7, 5}, {2047, 8191}, {2048, 8192}};
+    shown_history = NULL;
+    for (size_t i = 0; i < 5; i++) each_short(l, sizes[i][0], sizes[i][1], shortened);
+    each_value(l, 8, 8, valued);
+    each_value(l, 2048, 8192, valued);
 }

@@ -33,6 +33,9 @@ void each_short(Lent *l, size_t n, size_t limit, void (*call)(Lent *l));
 // Calls with every n, limit and number of steps among the edges, on tables that are long enough for this n and limit.
 void each_value(Lent *l, size_t n, size_t limit, void (*call)(Lent *l));
 
+// Both, for small tables and for the largest.
+void each_refusal(Lent *l, void (*shortened)(Lent *l), void (*valued)(Lent *l));
+
 // Overwrites so many entries at random among those needed.
 void wild_overwrite(Lent *l, size_t entries);
 
