@@ -253,13 +253,13 @@ static uint32_t send(Engine *e, uint8_t kind, size_t first, size_t second)
 // Flattened into one function, in which the tables stay in registers: faster than with calls.
 __attribute__((flatten)) uint32_t baseline_update(PARAMETERS)
 {
-    if (kind != 'E' && kind != 'T' && kind != 'C') return REFUSED + 11;
     if (n == 0 || n > MAX_STATES) return REFUSED + 1;
     if (limit == 0 || limit > MAX_STEPS) return REFUSED + 2;
     if (status_len < n || marks_len < n || successor_len < n || news_len < n) return REFUSED + 3;
     if (in_head_len < n || out_head_len < n || queue_len < n || visited_len < n) return REFUSED + 3;
     if (from_len < limit || to_len < limit || in_next_len < limit || out_next_len < limit) return REFUSED + 3;
     if (*steps > limit) return REFUSED + 4;
+    if (kind != 'E' && kind != 'T' && kind != 'C') return REFUSED + 11;
     Engine e = {n, limit, *steps, status, marks, from, to, successor, news, in_head, out_head, queue, visited, in_next, out_next};
     uint32_t answer = send(&e, kind, first, second);
     *steps = e.steps;

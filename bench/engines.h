@@ -18,8 +18,9 @@ enum { MAX_STATES = 2048, MAX_STEPS = 8192, NO_SUCCESSOR = 65535, REFUSED = 6553
 
 typedef uint32_t update_call(PARAMETERS);
 
-// The proved engine's algorithm in plain C; and the same once more, counting list moves.
-update_call baseline_update, counted_update;
+// The proved engine's algorithm in plain C, bench/baseline.c: built by gcc -O2, by the kit's clang at -O3, by gcc -O3; and once more,
+// counting list moves.
+update_call baseline_update, clang_update, gcc3_update, counted_update;
 
 // Reads of a list's next entry, and of a successor, since it was last set to 0.
 extern unsigned long list_moves;

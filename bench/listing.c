@@ -1,6 +1,8 @@
 // The listing program in plain C: the proved program's way from bytes to bytes (crates/record, reader, report, listing) over the plain
 // engine. Reads a record on standard input, and prints its listing.
 #include "engines.h"
+#include <stdio.h>
+#include <stdlib.h>
 #include <string.h>
 #include <unistd.h>
 
@@ -160,7 +162,10 @@ static void write_out(size_t len)
 {
     for (size_t done = 0; done < len;) {
         ssize_t put = write(STDOUT_FILENO, output + done, len - done);
-        if (put <= 0) return;
+        if (put <= 0) {
+            fprintf(stderr, "listing: cannot write standard output\n");
+            exit(0);
+        }
         done += (size_t)put;
     }
 }
@@ -174,7 +179,7 @@ static size_t with_room(size_t end)
 
 static size_t list_piece(Splitter *s, size_t len, size_t end)
 {
-    for (size_t at = 0; at < len; at++) {
+    for (size_t at = 0; at < len && !s->stopped; at++) {
         at = fill(&s->line, input, len, at);
         if (at == len) break;
         size_t line = s->number;
@@ -187,10 +192,12 @@ static size_t list_piece(Splitter *s, size_t len, size_t end)
 int main(void)
 {
     Splitter s = {.number = 1};
+    ssize_t got = 0;
     memset(successor, 255, sizeof successor);
     memcpy(output, "line verdict number\n", 20);
     size_t end = 20;
-    for (ssize_t got; (got = read(STDIN_FILENO, input, sizeof input)) > 0;) end = list_piece(&s, (size_t)got, end);
+    while (!s.stopped && (got = read(STDIN_FILENO, input, sizeof input)) > 0) end = list_piece(&s, (size_t)got, end);
+    if (got < 0) fprintf(stderr, "listing: cannot read standard input\n");
     end = with_room(end);
     size_t line = s.number;
     if (s.line.len > 0 || line == 1) end = put_answer(end, line, ended(&s));

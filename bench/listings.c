@@ -140,8 +140,8 @@ static const struct {
     {"each line refused with 5", too_large},
     {"each line refused with 11", malformed},
     {"each line refused with 11, of 65 bytes", long_lines},
-    {"10 at line 1, the rest skipped", wrong_names},
-    {"12 at line 65,536, the rest skipped", too_many},
+    {"10 at line 1, the rest not read", wrong_names},
+    {"12 at line 65,536, the rest not read", too_many},
     {"the names line alone", names_alone},
 };
 

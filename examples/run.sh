@@ -1,11 +1,22 @@
 #!/usr/bin/env bash
-# Builds the listing and drawing programs, lists and draws the sample records, then builds the library for C and runs the examples over it.
-# With --check the outputs are held to the stored ones.
+# Lists a sample record at once, by the listing program run without a proof. Then proves and builds the programs and the library for C,
+# lists and draws the sample records, and runs the examples in C. With --check the outputs are held to the stored ones, and that is all.
 set -eu
 cd "$(dirname "$0")/.."
-[ -x target/bin/listing ] || rt check listing >/dev/null
-[ -x target/bin/draw ] || rt check draw >/dev/null
-[ -f target/staticlib/libcapi.a ] || rt staticlib capi >/dev/null
+
+# The kit runs the program from its source, and holds what it writes to the listing shown.
+first_look() {
+    local said
+    said=$(rt try listing 2>&1) || { echo "$said" && return 1; }
+    echo "== crates/listing/stdin, a record"
+    cat crates/listing/stdin
+    echo "== its listing"
+    cat crates/listing/stdout
+    echo "== nothing is proved by this run; what is not proved yet follows, crate by crate"
+}
+
+[ "${1:-}" = --check ] || first_look
+bash scripts/ready.sh
 for program in story explorer; do
     gcc -std=c11 -O2 -Wall -Wextra -Werror -Iinclude "examples/$program.c" target/staticlib/libcapi.a -o "target/$program"
 done

@@ -27,7 +27,7 @@ enum radvoinis_status_byte {
 
 /* One update on the caller's tables: kind is 'E' (a step from first to second), 'T' (a terminal mark on first) or 'C' (a close
    of first). Answers the number of its news, which stand in the front of the news list, and brings *steps up to date; or
-   RADVOINIS_REFUSED plus the number of its refusal (11 for any other kind), and changes nothing.
+   RADVOINIS_REFUSED plus the number of its refusal (1 to 9; 11 for any other kind, tested behind 1 to 4), and changes nothing.
    Needed lengths: n for status, marks, successor, news, in_head, out_head, queue, visited; limit for from, to, in_next, out_next. */
 uint32_t radvoinis_update(size_t n, size_t limit, size_t *steps, uint8_t kind, size_t first, size_t second,
                           uint8_t *status, size_t status_len, uint8_t *marks, size_t marks_len,
@@ -41,7 +41,7 @@ uint32_t radvoinis_update(size_t n, size_t limit, size_t *steps, uint8_t kind, s
 uint32_t radvoinis_state_status(size_t n, size_t limit, size_t steps, const uint8_t *status, size_t status_len, size_t state);
 
 /* The length of the news part: count, or 0 where count is above the list's length. */
-size_t radvoinis_news_len(uint16_t *news, size_t news_len, size_t count);
+size_t radvoinis_news_len(const uint16_t *news, size_t news_len, size_t count);
 
 /* The table check: 1 where the tables fit (some legal history gives them, and the work tables fit), 0 where they do not; or
    RADVOINIS_REFUSED plus the number of the refusal (1 to 4), and changes nothing. It writes queue and visited alone, below n;

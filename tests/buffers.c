@@ -151,9 +151,9 @@ static void list_back(const Lent *l, const uint8_t *written)
     for (size_t s = 0; s < l->n; s++) count[bytes(l, STATUS)[s]]++;
     size_t end = (size_t)sprintf(totals, "end open %zu\nend unknown %zu\nend live %zu\nend dead %zu\n", count[OPEN], count[UNKNOWN],
                                  count[LIVE], count[DEAD]);
-    Output output = listing_run(written, length, 0);
-    check(CHECK_LISTED_BACK, output.ended && output.length > end && memcmp(output.bytes + output.length - end, totals, end) == 0);
-    check(CHECK_LISTED_BACK, !memmem(output.bytes, output.length, "refused", 7));
+    Output output = program_run(LISTING, written, length, 0);
+    check(CHECK_LISTED_BACK, output.ended && strcmp(output.said, "") == 0 && !memmem(output.bytes, output.length, "refused", 7));
+    check(CHECK_LISTED_BACK, output.length > end && memcmp(output.bytes + output.length - end, totals, end) == 0);
 }
 
 // The written record stands against the page.

@@ -14,7 +14,7 @@ uint32_t radvoinis_state_status(size_t n, size_t limit, size_t steps, const uint
     return status[state];
 }
 
-size_t radvoinis_news_len(uint16_t *news, size_t news_len, size_t count)
+size_t radvoinis_news_len(const uint16_t *news, size_t news_len, size_t count)
 {
     (void)news;
     return count <= news_len ? count : 0;

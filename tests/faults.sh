@@ -1,13 +1,17 @@
 #!/usr/bin/env bash
-# Plants faults in the calls in plain C (the engine of bench/baseline.c, and tests/calls.c and tests/lister.c over the naive definitions),
-# one at a time, and runs the suite that must catch them on each, shortened: it must, and each suite must pass the calls without a fault.
-# With names of suites as arguments, those faults alone. All take about twenty minutes. The last line is 'N passed, M failed'.
+# Plants faults in the calls and the programs in plain C (the engine of bench/baseline.c; tests/calls.c, tests/lister.c and
+# tests/drawer.c over the naive definitions), one at a time, and runs the suite that must catch them on each, shortened: it must, and each
+# suite must pass what has no fault. With names of suites as arguments, those faults alone; with --few, a dozen of all suites. All take
+# about ten minutes, the few one. The last line is 'N passed, M failed'.
 set -u
-wanted=" ${*:-harness damage records buffers} "
 cd "$(dirname "$0")/.." || exit 2
+. tests/suites.sh
+only_few=
+if [ "${1:-}" = --few ]; then only_few=1 && shift; fi
+wanted=" ${*:-$suites} "
 dir=target/faults
 rm -rf "$dir"
-mkdir -p "$dir"/{suites,library,lister}
+mkdir -p "$dir"/{suites,library,lister,drawer}
 flags="-std=c11 -D_GNU_SOURCE -O2 -w -Ibench -Iinclude -Itests"
 
 passed=0 failed=0
@@ -15,22 +19,23 @@ passed=0 failed=0
 # Compiles a copy that faults are planted in.
 compile() { gcc $flags -Dbaseline_update=radvoinis_update -c "$dir/$1" -o "$dir/${1%.c}.o"; }
 
-for file in harness damage records buffers groups table lent runs wild fitting reading writing program reference; do
+for file in $wanted $shared; do
     gcc $flags -c tests/$file.c -o "$dir/suites/$file.o" || exit 2
 done
 cp bench/baseline.c tests/{calls,fitting,reading,writing,reference}.c "$dir/library/"
-cp tests/{lister,reading,reference}.c "$dir/lister/"
-for file in library/{baseline,calls,fitting,reading,writing,reference}.c lister/{lister,reading,reference}.c; do
+cp tests/{lister,standard,reading,reference}.c "$dir/lister/"
+cp tests/{drawer,standard,drawing,fitting,reading,reference}.c "$dir/drawer/"
+for file in $(cd "$dir" && echo {library,lister,drawer}/*.c); do
     compile $file || exit 2
 done
 
-# Builds the suite on the copies, and says what it closes with. The library shows its calls alone: the suite has definitions of its own.
-closing_of() { # SUITE
-    ld -r "$dir"/library/*.o -o "$dir/library.o" && objcopy --wildcard --keep-global-symbol='radvoinis_*' "$dir/library.o" || return 2
-    gcc "$dir"/lister/*.o -o "$dir/listing" || return 2
-    gcc "$dir/suites/$1.o" "$dir"/suites/{groups,table,lent,runs,wild,fitting,reading,writing,program,reference}.o "$dir/library.o" \
-        -o "$dir/$1" || return 2
-    LISTING=$dir/listing "$dir/$1" 1 0 2>"$dir/progress" | tail -n 1
+# Builds the suite on the copies, and runs it up to the first group that fails. The library shows its calls alone: the suite has
+# definitions of its own.
+run() { # SUITE
+    ld -r "$dir"/library/*.o -o "$dir/library.o" && objcopy --wildcard --keep-global-symbol='radvoinis_*' "$dir/library.o" || return
+    gcc "$dir"/lister/*.o -o "$dir/listing" && gcc "$dir"/drawer/*.o -o "$dir/draw" || return
+    gcc "$dir/suites/$1.o" $(printf "$dir/suites/%s.o " $shared) "$dir/library.o" -o "$dir/$1" || return
+    LISTING=$dir/listing DRAW=$dir/draw "$dir/$1" 1 0 stop 2>"$dir/progress"
 }
 
 tell() { # VERDICT NAME
@@ -38,17 +43,18 @@ tell() { # VERDICT NAME
     echo "$1: $2"
 }
 
-# One fault: a sed script on one of the copies, which must change it.
+# One fault: a sed script on one of the copies, which must change it. Those with few=1 are planted with --few too.
 fault() { # NAME SCRIPT [FILE] [SUITE]
-    local file=${3:-library/baseline.c} suite=${4:-harness} closing
+    local file=${3:-library/baseline.c} suite=${4:-harness} out=$dir/out
     [[ $wanted == *" $suite "* ]] || return
+    [ -z "$only_few" ] || [ -n "${few:-}" ] || return
     cp "$dir/$file" "$dir/plain"
     sed -i "$2" "$dir/$file"
     if cmp -s "$dir/$file" "$dir/plain"; then tell "NOT PLANTED" "$1" && return; fi
-    closing=$(compile $file && closing_of "$suite")
-    case $closing in
+    { compile $file && run "$suite"; } >"$out"
+    case $(tail -n 1 "$out") in
     *" passed, 0 failed") tell "NOT CAUGHT" "$1" ;;
-    *" failed") tell ok "$1 (${closing#*, })" ;;
+    *" failed") tell ok "$1 ($suite, $(sed -n 's/^FAILED: //p' "$out"))" ;;
     *) tell "NOT BUILT" "$1" ;;
     esac
     cp "$dir/plain" "$dir/$file"
@@ -58,17 +64,23 @@ fault() { # NAME SCRIPT [FILE] [SUITE]
 call_fault() { fault "$1" "$2" library/calls.c "${3:-harness}"; }
 fitting_fault() { fault "$1" "$2" library/fitting.c damage; }
 writing_fault() { fault "$1" "$2" library/writing.c buffers; }
-listing_fault() { fault "$1" "$2" lister/reading.c records; }
+status_fault() { fault "$1" "$2" library/reading.c records; }
+listing_fault() { fault "$1" "$2" "lister/${3:-reading}.c" records; }
 reading_fault() { # in the status call and in the listing program
-    fault "$1: status" "$2" library/reading.c records
+    status_fault "$1: status" "$2"
     listing_fault "$1: listing" "$2"
+}
+drawing_fault() { fault "$1" "$2" "drawer/${3:-drawing}.c" drawings; }
+program_fault() { # in both programs
+    listing_fault "$1: listing" "$2" standard
+    drawing_fault "$1: draw" "$2" standard
 }
 
 # A script for the lines of one function.
 within() { echo "/^[a-z].*[ *]$1(/,/^}/ { $2; }"; }
 
 for suite in $wanted; do
-    case $(closing_of $suite) in
+    case $(run $suite | tail -n 1) in
     *" passed, 0 failed") tell ok "no fault: $suite" ;;
     *) tell "FALSE ALARM" "no fault: $suite" ;;
     esac
@@ -79,7 +91,7 @@ fault "turns every update away" 's/    if (number) return REFUSED + (uint32_t)nu
 fault "says open for ever" 's/return settle(e, spread(e, LIVE_SOURCES, u), LIVE);/return 0;/; s/return find_dead(e, u);/return e->status[u] = OPEN, 0;/'
 fault "returns its tables untouched" 's/    return (uint32_t)(kind == .E. ? step.*/    return 0;/'
 fault "judges the first step and then echoes" 's/^    if (\*steps > limit).*/&\n    if (*steps > 0) return 0;/'
-fault "a ring is dead although a step leads out of it" 's/    rescue(e, escapes(e, span.len));//'
+few=1 fault "a ring is dead although a step leads out of it" 's/    rescue(e, escapes(e, span.len));//'
 fault "no rescue of those behind an escape" 's/rescue(e, escapes(e, span.len))/escapes(e, span.len)/'
 fault "tries one step out of a state whose successor died" "$(within way_out 's/if (leads_out(e, e->to\[p - 1\])) return p;/return leads_out(e, e->to[p - 1]) ? p : 0;/')"
 fault "a way out to an unknown state does not count" "$(within leads_out 's/ || e->status\[y\] == UNKNOWN//')"
@@ -127,7 +139,7 @@ fault "reads behind the statuses" "$(within spread 's/    Span span =/    if (e-
 fault "writes before the marks" "$(within settle 's/    size_t count = 0;/    size_t count = 0; e->marks[-1] = 0;/')"
 
 # refusals
-fault "a refusal names its state" 's/    if (number) return REFUSED + (uint32_t)number;/    if (number \&\& first < e->n) e->marks[first] |= NAMED;\n&/'
+few=1 fault "a refusal names its state" 's/    if (number) return REFUSED + (uint32_t)number;/    if (number \&\& first < e->n) e->marks[first] |= NAMED;\n&/'
 fault "a refusal counts a step" 's/    if (number) return REFUSED + (uint32_t)number;/    if (number == 9) e->steps++;\n&/'
 fault "9 with a place free" 's/e->steps == e->limit ? 9 : 0/e->steps + 1 >= e->limit ? 9 : 0/'
 fault "no 9" 's/e->steps == e->limit ? 9 : 0/0/'
@@ -161,6 +173,8 @@ for table in from to in_next out_next; do
 done
 fault "a table may not be just long enough" 's/visited_len < n/visited_len <= n/'
 fault "any other kind is a close" 's/^    if (kind != .E. .*//'
+fault "11 before 1" 's/^    if (n == 0 .*/    if (kind != 69 \&\& kind != 84 \&\& kind != 67) return REFUSED + 11;\n&/'
+fault "5 before 11" 's/^    if (kind != .E. .*/    if (kind != 69 \&\& kind != 84 \&\& kind != 67) return REFUSED + (first >= n ? 5 : 11);/'
 
 # tables with any contents
 fault "a walk that does not fall" 's/return q < p ? q : 0;/return q;/'
@@ -190,7 +204,7 @@ fitting_fault "the last state is not looked at" 's/return memcmp(status, t->stat
 fitting_fault "an open state called live fits" 's/    return memcmp(status, t->status, t->n) == 0;/    for (size_t s = 0; s < t->n; s++) if (status[s] != t->status[s] \&\& !(status[s] == OPEN \&\& t->status[s] == LIVE)) return 0; return 1;/'
 fitting_fault "an unknown state called dead fits" 's/    return memcmp(status, t->status, t->n) == 0;/    for (size_t s = 0; s < t->n; s++) if (status[s] != t->status[s] \&\& !(status[s] == UNKNOWN \&\& t->status[s] == DEAD)) return 0; return 1;/'
 fitting_fault "a dead state called unknown fits, with a ring of successors" 's/    return memcmp(status, t->status, t->n) == 0;/    for (size_t s = 0; s < t->n; s++) if (status[s] != t->status[s] \&\& !(status[s] == DEAD \&\& t->status[s] == UNKNOWN)) return 0; return 1;/; s/turns = chain_length(t, s, far);/turns = leaves(t, s) * t->n;/'
-fitting_fault "a ring of successors fits" 's/turns = chain_length(t, s, far);/turns = leaves(t, s) * t->n;/'
+few=1 fitting_fault "a ring of successors fits" 's/turns = chain_length(t, s, far);/turns = leaves(t, s) * t->n;/'
 fitting_fault "a successor that leaves another state fits" 's/ && t->from\[p\] == s//'
 fitting_fault "a successor behind the list fits" "$(within leaves 's/p < t->steps/p <= t->steps/')"
 fitting_fault "a successor of a live state fits" 's/if (t->status\[s\] != UNKNOWN && t->successor/if (t->status[s] != UNKNOWN \&\& t->status[s] != LIVE \&\& t->successor/'
@@ -206,7 +220,7 @@ fitting_fault "a step to a state out of range fits" 's/t->from\[p\] >= t->n || t
 fitting_fault "a repeated step does not fit" "$(within history_of 's/        history_add(h, (Update){.E.*/        if (p > 0 \&\& t->from[p] == t->from[p - 1] \&\& t->to[p] == t->to[p - 1]) return 0;\n&/')"
 
 # the table check: what it writes and refuses
-call_fault "a yes leaves a state visited" "$(within radvoinis_audit 's/visited\[s\] = yes ? 0 : 1/visited[s] = s > 0/')" damage
+few=1 call_fault "a yes leaves a state visited" "$(within radvoinis_audit 's/visited\[s\] = yes ? 0 : 1/visited[s] = s > 0/')" damage
 call_fault "a no writes a mark" "$(within radvoinis_audit 's/    return yes;/    if (!yes) ((uint8_t *)marks)[0] |= 1;\n&/')" damage
 call_fault "a yes clears a free list entry" "$(within radvoinis_audit 's/    return yes;/    if (yes \&\& steps < limit) ((uint16_t *)in_next)[steps] = 0;\n&/')" damage
 call_fault "the queue is written past n" "$(within radvoinis_audit 's/    return yes;/    if (queue_len > n) queue[n] = 0;\n&/')" damage
@@ -220,29 +234,30 @@ for table in from to in_next out_next; do
 done
 
 # records
-reading_fault "a leading zero is taken" "$(within update_of 's/    if (strlen(written)/    if (text[2] == 48 \&\& length > 5 \&\& text[3] >= 48) return (Update){text[0], first, second};\n&/')"
+few=1 reading_fault "a leading zero is taken" "$(within update_of 's/    if (strlen(written)/    if (text[2] == 48 \&\& length > 5 \&\& text[3] >= 48) return (Update){text[0], first, second};\n&/')"
 reading_fault "a carriage return is taken" "$(within update_of "s/    memcpy(text, line, length);/    if (length > 1 \&\& line[length - 1] == 13) length--;\n&/")"
 reading_fault "65,536 is taken" 's/first > 65535 || second > 65535/first > 65536 || second > 65536/'
 reading_fault "65,535 is not taken" 's/first > 65535 || second > 65535/first > 65534 || second > 65534/'
 reading_fault "a line is cut at 16 bytes" "$(within update_of 's/length == 0 || length > 16) return (Update){0};/length == 0) return (Update){0}; if (length > 16) length = 13;/')"
 reading_fault "a line ends at a NUL" "$(within update_of 's/    if (strlen(written) != length || memcmp(written, line, length) != 0)/    if (strcmp(written, text) != 0)/')"
-reading_fault "blank lines are passed over" "$(within take_line 's/    Update u = /    if (length == 0) return 1;\n&/')"
-listing_fault "blank lines are not counted" "$(within reading_read 's/        at += line + 1;/&\n        if (line == 0 \&\& number > 2) number--;/')"
-reading_fault "the last line is lost without its newline" "$(within reading_read 's/        more = take_line/        if (!end) break;\n&/')"
-reading_fault "a last newline makes an empty line" "$(within reading_read 's/more && at < length/more \&\& at <= length \&\& number < 70000/')"
-reading_fault "the names line need only begin so" "$(within take_line 's/length == strlen(names)/length >= strlen(names)/; s/memcmp(line, names, length)/memcmp(line, names, strlen(names))/')"
-reading_fault "the names line is not looked at" "$(within take_line 's/if (!exact) refuse(r, number, 10, listing);/exact = 1;/')"
-listing_fault "reading goes on after 10" "$(within take_line 's/return exact;/return 1;/')"
-reading_fault "empty input is a record" "$(within reading_read 's/    if (length == 0) refuse.*//')"
-reading_fault "12 a line early" "$(within take_line 's/number == 65536/number == 65535/')"
-reading_fault "12 a line late" "$(within take_line 's/number == 65536/number == 65537/')"
-reading_fault "11 before 12" "$(within take_line 's/number == 65536/number == 65536 \&\& (length == 0 || update_of(line, length).kind)/')"
-reading_fault "a limit of 2,047 steps" "$(within reading_read 's/MOST_STATES, limit)/MOST_STATES, limit - 1)/')"
-reading_fault "a limit of 2,049 steps" "$(within reading_read 's/MOST_STATES, limit)/MOST_STATES, limit + 1)/')"
-fault "the last refusal decides" "$(within refuse 's/if (!r->refused) //')" library/reading.c records
-fault "a state of 2,048 is asked of the record" "$(within reading_answer 's/state >= MOST_STATES/state > MOST_STATES/')" library/reading.c records
-fault "states asked in sixteen bits" "$(within reading_answer 's/state >= MOST_STATES/(uint16_t)state >= MOST_STATES/; s/\[state\]/[(uint16_t)state]/')" library/reading.c records
-fault "a state out of range is tested last" "$(within reading_answer 's/^    if (state/    if (r->refused) return 16 + r->refused;\n&/')" library/reading.c records
+reading_fault "blank lines are passed over" "$(within reading_line 's/    Update u = /    if (length == 0) return 1;\n&/')"
+listing_fault "blank lines are not counted" "$(within reading_line 's/    Update u = /    if (length == 0) r->lines--;\n&/')"
+status_fault "the last line is lost without its newline: status" "$(within reading_read 's/        more = reading_line/        if (!end) break;\n&/')"
+status_fault "a last newline makes an empty line: status" "$(within reading_read 's/at < length) {/at <= length) {/')"
+reading_fault "the names line need only begin so" "$(within reading_line 's/length == strlen(names)/length >= strlen(names)/; s/memcmp(line, names, length)/memcmp(line, names, strlen(names))/')"
+reading_fault "the names line is not looked at" "$(within reading_line 's/if (!exact) refuse(r, number, 10, listing);/exact = 1;/')"
+listing_fault "lines are listed after 10" "$(within reading_line 's/return exact;/return 1;/')"
+listing_fault "lines are listed after 12" "$(within reading_line 's/return 0;/return 1;/')"
+reading_fault "empty input is a record" "$(within reading_end 's/    if (r->lines == 0) refuse.*//')"
+reading_fault "12 a line early" "$(within reading_line 's/number == 65536/number == 65535/')"
+reading_fault "12 a line late" "$(within reading_line 's/number == 65536/number == 65537/')"
+reading_fault "11 before 12" "$(within reading_line 's/number == 65536/number == 65536 \&\& (length == 0 || update_of(line, length).kind)/')"
+reading_fault "a limit of 2,047 steps" "$(within reading_start 's/MOST_STATES, limit)/MOST_STATES, limit - 1)/')"
+reading_fault "a limit of 2,049 steps" "$(within reading_start 's/MOST_STATES, limit)/MOST_STATES, limit + 1)/')"
+status_fault "the last refusal decides" "$(within refuse 's/if (!r->refused) //')"
+status_fault "a state of 2,048 is asked of the record" "$(within reading_answer 's/state >= MOST_STATES/state > MOST_STATES/')"
+status_fault "states asked in sixteen bits" "$(within reading_answer 's/state >= MOST_STATES/(uint16_t)state >= MOST_STATES/; s/\[state\]/[(uint16_t)state]/')"
+status_fault "a state out of range is tested last" "$(within reading_answer 's/^    if (state/    if (r->refused) return 16 + r->refused;\n&/')"
 call_fault "the record is read past its end" "$(within radvoinis_status 's/    static Reading reading;/&\n    if (record[record_len] == 77) return 0;/')" records
 call_fault "the record is written to" "$(within radvoinis_status 's/    return reading_answer/    if (record_len > 20) ((uint8_t *)record)[13] ^= 1;\n&/')" records
 listing_fault "no header" 's/    if (listing) fprintf(listing, "line verdict number.*//'
@@ -251,13 +266,47 @@ listing_fault "news falling" "$(within print_news 's/news\[i\]/news[count - 1 - 
 listing_fault "lines counted from 0" "$(within print_news 's/n", number, /n", number - 1, /')"
 listing_fault "unknown and live exchanged" 's/"unknown", "live"/"live", "unknown"/'
 listing_fault "the last state is not counted" "$(within print_totals 's/s < MOST_STATES/s < MOST_STATES - 1/')"
-listing_fault "no totals after 10" "$(within reading_read 's/if (listing) print_totals/if (listing \&\& r->refused != 10) print_totals/')"
-listing_fault "no totals after 12" "$(within reading_read 's/if (listing) print_totals/if (listing \&\& number < 65537) print_totals/')"
-fault "the last piece is lost" 's/    reading_read(/    if (length > 65536) length = 65536;\n&/' lister/lister.c records
-fault "a short piece is the last" 's/(got = fread(record + length, 1, room - length, stdin)) > 0/length == 0 \&\& (got = read(0, record, room)) > 0/' lister/lister.c records
+listing_fault "no totals after 10" "$(within reading_end 's/if (listing) print_totals/if (listing \&\& r->refused != 10) print_totals/')"
+listing_fault "no totals after 12" "$(within reading_end 's/if (listing) print_totals/if (listing \&\& r->lines < 65536) print_totals/')"
+
+# the programs' input and output
+program_fault "the last line is lost without its newline" 's/        more = reading_line/        if (line[got - 1] != 10) break;\n&/'
+listing_fault "a last newline makes an empty line: listing" 's/int more = 1;/int more = 1, ended = 0;/; s/        more = reading_line/        ended = line[got - 1] == 10;\n&/; s/    if (ferror(stdin)) .*/    if (more \&\& ended) reading_line(r, (const uint8_t *)"", 0, listing);\n&/' standard
+program_fault "the first piece alone is read" 's/int more = 1;/int more = 1; size_t taken = 0;/; s/        more = reading_line/        if ((taken += (size_t)got) > 65536) break;\n&/'
+program_fault "a short piece is the last" 's/stdin)) > 0/input)) > 0/; s/int more = 1;/int more = 1, part; static char all[1 << 24]; size_t bytes = 0; do bytes += (part = read(0, all + bytes, 65536)) > 0 ? part : 0; while (part == 65536); FILE *input = fmemopen(all, bytes ? bytes : 1, "r");/'
+few=1 program_fault "reading goes on after 10" 's/    if (ferror(stdin)) .*/    while (r->lines == 1 \&\& getline(\&line, \&room, stdin) > 0) ;\n&/'
+program_fault "reading goes on after 12" 's/    if (ferror(stdin)) .*/    while (r->lines == 65536 \&\& getline(\&line, \&room, stdin) > 0) ;\n&/'
+program_fault "a read error is not said" 's/    if (ferror(stdin)) .*//'
+program_fault "a read error is the end of all" 's/    if (ferror(stdin)) .*/&\n    if (ferror(stdin)) exit(0);/'
+program_fault "an end is said to be an error" 's/if (ferror(stdin))/if (more)/'
+program_fault "a failed write is not said" 's/    if (fflush.*/    fflush(stdout);/'
+program_fault "a failed write is an exit status" 's/    if (fflush.*/    if (fflush(stdout) || ferror(stdout)) fprintf(stderr, "%s: cannot write standard output\\n", program), exit(1);/'
+listing_fault "a failed write does not end it" 's/!ferror(stdout) && //' standard
+few=1 listing_fault "a full buffer is begun anew and not written" 's/int more = 1;/int more = 1; static char kept[131072]; setvbuf(stdout, kept, _IOFBF, sizeof kept);/; s/        more = reading_line.*/&\n        if (__fpending(stdout) > 90112) __fpurge(stdout);/; s/#include <stdlib.h>/&\n#include <stdio_ext.h>/' standard
+
+# pictures
+few=1 drawing_fault "bold by the target" "$(within choose 's/first/other/g; s/second/first/g; s/other/second/g')" drawer
+drawing_fault "every step bold" 's/bold\[p++\] ? bold_end : ";"/bold_end/'
+drawing_fault "no step bold" 's/bold\[p++\] ? bold_end : ";"/";"/'
+drawing_fault "every step to a nearer state bold" "$(within choose 's/!near\[u.first\] && near\[u.second\]/!bold[p] \&\& near[u.second]/')" drawer
+drawing_fault "a ring of bold steps" "$(within choose 's/near\[u.second\])/(near[u.second] || r->status[u.second] == UNKNOWN))/')" drawer
+drawing_fault "bold steps out of live states" "$(within choose 's/r->status\[u.first\] == UNKNOWN/(r->status[u.first] == UNKNOWN || r->status[u.first] == LIVE)/')" drawer
+drawing_fault "the last bold step is plain" "$(within drawing_write 's/bold\[p++\] ?/bold[p++] \&\& p < 2048 ?/')"
+drawing_fault "refused steps drawn" "$(within reading_line 's/    refusal ? refuse/    if (refusal == 6 \&\& u.kind == 69) history_add(\&r->history, u);\n&/')" reading
+drawing_fault "an equal step drawn once" "$(within drawing_write 's/if (u.kind == .E.)/if (u.kind == 69 \&\& !(i > 0 \&\& memcmp(\&u, \&r->history.accepted[i - 1], sizeof u) == 0))/')"
+few=1 drawing_fault "live and dead exchanged" 's/"live", "dead"/"dead", "live"/'
+drawing_fault "the colours of open and unknown exchanged" 's/"#ffffff", "#ffe08a"/"#ffe08a", "#ffffff"/'
+drawing_fault "unseen states drawn" "$(within write_state 's/if (status != UNSEEN) //')"
+drawing_fault "state 2,047 not drawn" "$(within drawing_write 's/s < MOST_STATES/s < MOST_STATES - 1/')"
+drawing_fault "states falling" "$(within drawing_write 's/write_state(s, r->status\[s\]/write_state(2047 - s, r->status[2047 - s]/')"
+drawing_fault "no end" 's/    fprintf(picture, "}.n");//'
+drawing_fault "the picture of the first refusal" "$(within reading_line 's/    return 1;/    return !refusal;/')" reading
+drawing_fault "a limit of 2,047 steps drawn" "$(within reading_start 's/MOST_STATES, limit)/MOST_STATES, limit - 1)/')" reading
+drawing_fault "12 a line late: draw" "$(within reading_line 's/number == 65536/number == 65537/')" reading
+drawing_fault "no picture after 10" 's/    drawing_write(/    if (reading.refused != 10) drawing_write(/' drawer
 
 # the writer
-writing_fault "closes before the steps" '/    for (size_t p = 0/{ h; d; }; /CLOSED, .C., record + length);/G'
+few=1 writing_fault "closes before the steps" '/    for (size_t p = 0/{ h; d; }; /CLOSED, .C., record + length);/G'
 writing_fault "no names line" 's/sprintf(record, "kind from to.n")/0/'
 writing_fault "marks exchanged" 's/TERMINAL, .T./CLOSED, 84/'
 writing_fault "named states are marked" "$(within write_marked 's/marks\[s\] & mark/marks[s] >= mark/')"
@@ -268,7 +317,7 @@ writing_fault "the ends of a step exchanged" 's/(unsigned)from\[p\], (unsigned)t
 writing_fault "ends in fifteen bits" 's/(unsigned)to\[p\]/(unsigned)to[p] % 32768/'
 writing_fault "no last newline" "$(within writing_write 's/    return length;/    return length - (steps > 0);/')"
 call_fault "an exact fit is refused" 's/buf_len - \*at < length/buf_len - *at <= length/' buffers
-call_fault "one byte short is taken" 's/buf_len - \*at < length/buf_len - *at + 1 < length/' buffers
+few=1 call_fault "one byte short is taken" 's/buf_len - \*at < length/buf_len - *at + 1 < length/' buffers
 call_fault "a place past the end is taken" 's/\*at > buf_len || //' buffers
 call_fault "the place is not brought on" "$(within radvoinis_write 's/    \*at += length;//')" buffers
 call_fault "the place moves on a refusal" "$(within radvoinis_write 's/^    if (\*at > buf_len/    size_t was = *at; if (was \&\& buf_len \&\& was < buf_len \&\& buf_len - was < length) *at = buf_len;\n&/')" buffers
@@ -281,8 +330,8 @@ call_fault "the writer's marks too short by one" "$(within radvoinis_write 's/ma
 for table in from to; do
     call_fault "the writer's $table too short by one" "$(within radvoinis_write "s/\b${table}_len >= limit/${table}_len + 1 >= limit/")" buffers
 done
-fault "what was written is not read: status" "$(within take_line 's/    Update u = update_of(line, length);/&\n    if (u.kind == 67 \&\& number > 4) return 1;/')" library/reading.c buffers
-fault "what was written is not read: listing" "$(within take_line 's/    Update u = update_of(line, length);/&\n    if (u.kind == 67 \&\& number > 4) return 1;/')" lister/reading.c buffers
+fault "what was written is not read: status" "$(within reading_line 's/    Update u = update_of(line, length);/&\n    if (u.kind == 67 \&\& number > 4) return 1;/')" library/reading.c buffers
+fault "what was written is not read: listing" "$(within reading_line 's/    Update u = update_of(line, length);/&\n    if (u.kind == 67 \&\& number > 4) return 1;/')" lister/reading.c buffers
 
 echo "$passed passed, $failed failed"
 [ "$failed" -eq 0 ]

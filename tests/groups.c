@@ -109,7 +109,7 @@ int suite_run(const Suite *s, int argc, char **argv)
     suite = s;
     if (s->check_count > MOST_CHECKS) abort();
     watch();
-    for (size_t i = 0; i < s->group_count; i++) run_group(i, seed);
+    for (size_t i = 0; i < s->group_count && !(argc > 3 && failed_groups); i++) run_group(i, seed);
     s->sum();
     for (size_t i = 0; i < s->check_count; i++) printf("%12lu  %s\n", counts[i], s->checks[i]);
     closing_line();

@@ -1,5 +1,6 @@
-// Groups of checks, as every suite runs them: `SUITE [seed] [scale]`. A scale of 10 makes ten times as many random rounds, 0 a tenth.
-// Progress goes to stderr; the last line is 'N passed, M failed', N and M counting groups.
+// Groups of checks, as every suite runs them: `SUITE [seed] [scale] [stop]`. A scale of 10 makes ten times as many random rounds, 0 a
+// tenth; with a third argument nothing is run behind a group that failed. Progress goes to stderr; the last line is 'N passed, M failed',
+// N and M counting groups.
 #ifndef GROUPS_H
 #define GROUPS_H
 

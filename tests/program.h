@@ -1,18 +1,30 @@
-// Runs the listing program on bytes and takes what it writes. LISTING in the environment names another than target/bin/listing.
+// Runs a program and takes what it writes. LISTING and DRAW in the environment name others than target/bin/listing and target/bin/draw.
 #ifndef PROGRAM_H
 #define PROGRAM_H
 
 #include <stddef.h>
 #include <stdint.h>
 
+typedef enum { LISTING, DRAW } Program;
+
+// What comes on standard input: bytes that stand in a file; that come through a pipe; through a pipe that stays open until the program
+// has ended, for which it has a few seconds; through a socket that fails behind them. A folder, and nothing at all, cannot be read.
+typedef enum { FROM_FILE, FROM_PIPE, FROM_HELD_PIPE, FROM_FAILING_SOCKET, FROM_FOLDER, FROM_NOTHING } Source;
+
+// Where standard output goes. A full device, and nothing at all, cannot be written to.
+typedef enum { TO_MEMORY, TO_FULL_DEVICE, TO_NOTHING } Target;
+
 typedef struct {
     int ended;               // whether it ended by itself with exit status 0
-    const uint8_t *bytes;    // what it wrote, until the next run
+    const uint8_t *bytes;    // what it wrote to memory, until the next run
     size_t length;
+    const char *said;        // what it wrote to standard error
 } Output;
 
-// The bytes stand in a file; or they come through a pipe in pieces of at most so many bytes, each by a read of its own.
+Output program_run_between(Program p, Source from, const uint8_t *input, size_t length, size_t piece, Target to);
+
+// From a file; or through a pipe in pieces of at most so many bytes, each by a read of its own.
 enum { PIECE_MOST = 4096 };
-Output listing_run(const uint8_t *input, size_t length, size_t piece);
+Output program_run(Program p, const uint8_t *input, size_t length, size_t piece);
 
 #endif

@@ -49,9 +49,27 @@ static void refuse(Reading *r, size_t number, int refusal, FILE *listing)
     if (listing) fprintf(listing, "%zu refused %d\n", number, refusal);
 }
 
-// One line; answers whether reading goes on.
-static int take_line(Reading *r, size_t number, const uint8_t *line, size_t length, FILE *listing)
+static void print_totals(FILE *listing, const uint8_t *status)
 {
+    static const char *const words[] = {"unseen", "open", "unknown", "live", "dead"};
+    size_t totals[5] = {0};
+    for (size_t s = 0; s < MOST_STATES; s++) totals[status[s]]++;
+    for (int i = OPEN; i <= DEAD; i++) fprintf(listing, "end %s %zu\n", words[i], totals[i]);
+}
+
+// ---- the record
+
+void reading_start(Reading *r, size_t limit, FILE *listing)
+{
+    history_start(&r->history, MOST_STATES, limit);
+    memset(r->marks, 0, MOST_STATES), memset(r->status, 0, MOST_STATES);
+    r->refused = 0, r->lines = 0;
+    if (listing) fprintf(listing, "line verdict number\n");
+}
+
+int reading_line(Reading *r, const uint8_t *line, size_t length, FILE *listing)
+{
+    size_t number = ++r->lines;
     if (number == 1) {
         int exact = length == strlen(names) && memcmp(line, names, length) == 0;
         if (!exact) refuse(r, number, 10, listing);
@@ -63,35 +81,29 @@ static int take_line(Reading *r, size_t number, const uint8_t *line, size_t leng
     }
     Update u = update_of(line, length);
     const History *h = &r->history;
-    int refusal = u.kind ? reference_sent(h->n, h->limit, h->steps, r->marks, r->status, u) : 11;
+    int refusal = reference_sent(h->n, h->limit, h->steps, r->marks, r->status, u);
     refusal ? refuse(r, number, refusal, listing) : accept(r, number, u, listing);
     return 1;
 }
 
-static void print_totals(FILE *listing, const uint8_t *status)
+void reading_end(Reading *r, FILE *listing)
 {
-    static const char *const words[] = {"unseen", "open", "unknown", "live", "dead"};
-    size_t totals[5] = {0};
-    for (size_t s = 0; s < MOST_STATES; s++) totals[status[s]]++;
-    for (int i = OPEN; i <= DEAD; i++) fprintf(listing, "end %s %zu\n", words[i], totals[i]);
+    if (r->lines == 0) refuse(r, 1, 10, listing);    // "Empty input lacks its names line."
+    if (listing) print_totals(listing, r->status);
 }
 
 void reading_read(Reading *r, size_t limit, const uint8_t *record, size_t length, FILE *listing)
 {
-    size_t number = 1, at = 0;
+    size_t at = 0;
     int more = 1;
-    history_start(&r->history, MOST_STATES, limit);
-    memset(r->marks, 0, MOST_STATES), memset(r->status, 0, MOST_STATES);
-    r->refused = 0;
-    if (listing) fprintf(listing, "line verdict number\n");
-    if (length == 0) refuse(r, 1, 10, listing);    // "Empty input lacks its names line."
+    reading_start(r, limit, listing);
     while (more && at < length) {
         const uint8_t *end = memchr(record + at, '\n', length - at);
         size_t line = end ? (size_t)(end - record) - at : length - at;
-        more = take_line(r, number++, record + at, line, listing);
+        more = reading_line(r, record + at, line, listing);
         at += line + 1;
     }
-    if (listing) print_totals(listing, r->status);
+    reading_end(r, listing);
 }
 
 // "A state of 2,048 or more counts as refusal 5 and is tested first. A refusal answers 16 plus its number."

@@ -5,16 +5,22 @@
 #include "reference.h"
 #include <stdio.h>
 
-// What a record gives: the accepted updates, less terminal marks that repeat one, with their marks and statuses; and the number of the
-// first refusal, or 0.
+// What a record gives: the accepted updates, less terminal marks that repeat one, with their marks and statuses; the number of the first
+// refusal, or 0; and the number of its lines.
 typedef struct {
     History history;
     uint8_t marks[MOST_STATES], status[MOST_STATES];
     int refused;
+    size_t lines;
 } Reading;
 
 // Reads a record, and writes its listing where there is a place for it.
 void reading_read(Reading *r, size_t limit, const uint8_t *record, size_t length, FILE *listing);
+
+// The same line by line; a line without its newline. The second answers whether reading goes on.
+void reading_start(Reading *r, size_t limit, FILE *listing);
+int reading_line(Reading *r, const uint8_t *line, size_t length, FILE *listing);
+void reading_end(Reading *r, FILE *listing);
 
 // What the explorer is answered for a state.
 uint8_t reading_answer(const Reading *r, uint32_t state);

@@ -1,26 +1,25 @@
 #!/usr/bin/env bash
-# Builds the suites against the static library and the listing program, which are made where they are missing, and runs them one after
-# the other: tests/run.sh [seed] [scale]. CFLAGS in the environment replaces -O2, as for a build with sanitizers. The last line is
-# 'N passed, M failed', the sum over the suites.
+# Builds the suites against the library for C, and runs them one after the other, on it and on the programs: tests/run.sh [seed] [scale].
+# CFLAGS in the environment replaces -O2, as for a build with sanitizers. The last line is 'N passed, M failed', the sum over the suites.
 set -eu
 cd "$(dirname "$0")/.."
-[ -f target/staticlib/libcapi.a ] || rt staticlib capi
-[ -x target/bin/listing ] || rt check listing
+. tests/suites.sh
+bash scripts/ready.sh
 dir=target/tests
 mkdir -p "$dir"
 
 compile() { gcc -std=c11 -D_GNU_SOURCE ${CFLAGS:--O2} -Wall -Wextra -Werror "$@"; }
 
-shared=()
-for file in groups table lent runs wild fitting reading writing program reference; do
+objects=()
+for file in $shared; do
     compile -c "tests/$file.c" -o "$dir/$file.o"
-    shared+=("$dir/$file.o")
+    objects+=("$dir/$file.o")
 done
 
 passed=0 failed=0
-for suite in harness damage records buffers; do
+for suite in $suites; do
     echo "== tests/$suite.c"
-    compile "tests/$suite.c" "${shared[@]}" target/staticlib/libcapi.a -o "$dir/$suite"
+    compile "tests/$suite.c" "${objects[@]}" target/staticlib/libcapi.a -o "$dir/$suite"
     status=0
     "$dir/$suite" "$@" >"$dir/$suite.out" || status=$?
     cat "$dir/$suite.out"

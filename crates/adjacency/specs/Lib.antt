@@ -1,2 +1,2 @@
--- Walks over the steps at a state.
+-- Walks over the steps at a state. Inner contracts, which no promise cites.
 pub mod Walks

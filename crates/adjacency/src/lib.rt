@@ -1,8 +1,8 @@
 // Where a state's steps are: for each state, the steps into it and the steps out of it, chained by falling index in work tables.
 // An entry is 1 + the index of a step, or 0 where the chain ends. On tables with any contents a walk falls and stays inside.
 ghost use mathlib.Core.Path.{_≡_};
-ghost use Prim.Native.Nat.{ℕ, _+_, _-_, _≤_, _<_};
-ghost use lib.ListN.{length, getD, set};
+ghost use Prim.Native.Nat.{_+_, _-_, _≤_, _<_};
+ghost use lib.ListN.{length};
 ghost use Rattle.adjacency.specs.Walks.{clamp, firstAt, nextAt, Pushed};
 use tables::wide;
 

@@ -12,20 +12,21 @@ use lib.ListN.{length, getD, set}
 use lib.Seq.{getD-set-same, getD-set-other}
 use borrow.Author.Count.{below-more}
 use Rattle.tables.specs.Work.{lastBefore}
+use Rattle.tables.specs.Fitting.{AllBelow}
 use Rattle.adjacency.proofs.Walks.{last-none, last-here, last-earlier}
-use Rattle.search.specs.Counting.{Kept}
-use Rattle.search.proofs.Counting.{kept-none, kept-trans, kept-set}
-use Rattle.audit.specs.Parts.{Zeroed, Same, Nexts, Lasts, NextFits, differs, follows, NextsFit, ListFits}
+use Rattle.tables.specs.Keeping.{Kept, filled}
+use Rattle.tables.proofs.Keeping.{kept-none, kept-trans, kept-set, filled-kept}
+use Rattle.audit.specs.Parts.{Same, Nexts, LastSteps, NextFits, differs, follows, NextsFit, ListFits}
 
 -- The first p of the m steps have been met.
 pub record Chaining (n m : ℕ) (ends next last₀ last : List ℕ) (p : ℕ) : Type 0 where
   pub inside : p ≤ m
   pub nexts : Nexts p ends next
-  pub lasts : Lasts n p ends last
+  pub lasts : LastSteps n p ends last
   pub kept : Kept n last₀ last
 
 module _ {n m : ℕ} {ends next last₀ : List ℕ} where
-  pub chaining-first : ((v : ℕ) → v < n → getD last₀ v 0 ≡ 0) → Chaining n m ends next last₀ last₀ 0
+  pub chaining-first : AllBelow n 0 last₀ → Chaining n m ends next last₀ last₀ 0
   chaining-first z =
       record {
         inside = omega arith;
@@ -70,13 +71,16 @@ module _ {n m : ℕ} {ends next last₀ : List ℕ} where
         kept = c .kept;
       }
 
--- The whole list: next entries, then heads.
-module _ {n m : ℕ} {ends head next last₀ last₁ last : List ℕ} (z : Zeroed n last₀ last₁) where
+-- The whole list: the work table is emptied, then next entries, then heads.
+emptied : {n : ℕ} {l l′ : List ℕ} → n ≤ length l → l′ ≡ filled n 0 l → Kept n l l′
+emptied {n} {l} w z = rw z (filled-kept n 0 l w)
+
+module _ {n m : ℕ} {ends head next last₀ last₁ last : List ℕ} (w : n ≤ length last₀) (z : last₁ ≡ filled n 0 last₀) where
   pub list-stops : {r : Bool} → NextsFit n m ends next last₁ last r → r ≡ false → ListFits n m ends head next last₀ last false
   list-stops {r} f e =
       record {
         exact = (λ y. absurd (false≢true y), λ a. absurd (false≢true (sym e ∙ f .exact .1 (a .nexts))));
-        kept = kept-trans (z .kept) (f .kept);
+        kept = kept-trans (emptied w z) (f .kept);
       }
 
   pub list-ends : {r s : Bool} → NextsFit n m ends next last₁ last r → r ≡ true → (s ≡ true) ↔ Same n head last → ListFits n m ends head next last₀ last s
@@ -86,5 +90,5 @@ module _ {n m : ℕ} {ends head next last₀ last₁ last : List ℕ} (z : Zeroe
           λ y. record { heads = λ v k. h .0 y v k ∙ f .lasts e v k; nexts = f .exact .0 e },
           λ a. h .1 (λ v k. a .heads v k ∙ sym (f .lasts e v k)),
         );
-        kept = kept-trans (z .kept) (f .kept);
+        kept = kept-trans (emptied w z) (f .kept);
       }

@@ -2,9 +2,9 @@
 -- Assumes nothing.
 use mathlib.Core.Path.{_≡_, refl, sym, _∙_}
 use mathlib.Core.Logic.{inl, inr}
-use mathlib.Core.Bool.{Bool, true, false, cond, false≢true}
+use mathlib.Core.Bool.{Bool, true, false, false≢true}
 use mathlib.Core.List.{List}
-use Prim.Native.Nat.{ℕ, zero, suc, _+_, _*_, _/_, _%_, _<_, _≤_}
+use Prim.Native.Nat.{ℕ, zero, suc, _<_, _≤_}
 use native.Mathlib.Omega.{arith}
 use native.Mathlib.Decide.{ℕ-discrete}
 use lib.Dec.{eqb}
@@ -28,6 +28,7 @@ use Rattle.tables.specs.Tables.{Tables}
 use Rattle.tables.specs.Marks.{hasNamed, hasTerminal, hasClosed}
 use Rattle.tables.specs.Work.{lastBefore}
 use Rattle.tables.specs.Fitting.{marksOf, Consistent}
+use Rattle.tables.proofs.Bits.{bits, byte-sum}
 use Rattle.adjacency.specs.Walks.{Linked}
 use Rattle.adjacency.proofs.Walks.{linked, last-none, last-earlier}
 use Rattle.search.specs.declared.spread.Mode.the-variants.{Tree, Claimed}
@@ -36,21 +37,6 @@ use Rattle.audit.specs.Facts.{starts, startsAt, TableFacts}
 use Rattle.audit.proofs.Reading.{Suited, as-unseen, as-open, as-unknown, as-dead, as-live, suited-low, suited-terminal, suited-closed, decides-same, both-true, StateFacts, decides-state, StepFacts, decides-step}
 use Rattle.audit.proofs.Gathering.{reached-range}
 use Rattle.audit.proofs.Canonical.{canonical, canonical-terminal, canonical-closed, canonical-step, terminal-canonical, closed-canonical, step-canonical, canonical-sources, canonical-targets}
-
--- A bit of a byte of marks, with its weight.
-weigh : (x : ℕ) → (cond (eqb (x % 2) 1) 1 0 ≡ x % 2) × (cond (eqb (x % 2) 1) 2 0 ≡ 2 * (x % 2)) × (cond (eqb (x % 2) 1) 4 0 ≡ 4 * (x % 2))
-weigh x = at (ℕ-discrete (x % 2) 1)
-  where
-    at : Dec (x % 2 ≡ 1) → (cond (eqb (x % 2) 1) 1 0 ≡ x % 2) × (cond (eqb (x % 2) 1) 2 0 ≡ 2 * (x % 2)) × (cond (eqb (x % 2) 1) 4 0 ≡ 4 * (x % 2))
-    at (yes e) = rw e (refl, refl, refl)
-    at (no d) = let z : x % 2 ≡ 0 = omega arith in rw z (refl, refl, refl)
-
--- a byte of three marks is their sum
-byte-sum : (m : ℕ) → m ≤ 7 → cond (hasNamed m) 1 0 + cond (hasTerminal m) 2 0 + cond (hasClosed m) 4 0 ≡ m
-byte-sum m h =
-    let a : m / 4 % 2 ≡ m / 4 = omega arith in
-    let b : m / 4 ≡ m / 2 / 2 = omega arith in
-    rw (weigh m .0, weigh (m / 2) .1, weigh (m / 4) .2) (omega arith)
 
 -- a list of steps that is not empty has a step
 last-step : (ends : List ℕ) (m v : ℕ) → (lastBefore ends m v ≡ 0 → ⊥) → (p : ℕ) × (p < m) × (getD ends p 0 ≡ v)
@@ -119,6 +105,7 @@ module _ (g : Graph) (t : Tables) (f : TableFacts (g .n) (g .steps) t) where
       at (Close u) k z = let r = has-closed k in rw (← z) (r .0, suited-closed (state u (r .0) .suited) (r .1))
 
   is-named : (s : ℕ) → s < g .n → hasNamed (getD (t .marks) s 0) ≡ true → IsNamed (historyOf g t) s
+  unfolding bits
   is-named s h e = at (terminalOf t s) (closedOf t s) refl refl
     where
       -- with no other mark, one of the lists is not empty
@@ -134,7 +121,7 @@ module _ (g : Graph) (t : Tables) (f : TableFacts (g .n) (g .steps) t) where
           ends-here (sym (byte-sum (getD (t .marks) s 0) (suited-low (state s h .suited))) ∙ rw (e, p, q)) (ℕ-discrete (getD (t .inHead) s 0) 0) (ℕ-discrete (getD (t .outHead) s 0) 0)
 
   marks-given : (s : ℕ) → s < g .n → getD (t .marks) s 0 ≡ marksOf (historyOf g t) s
-  unfolding marksOf
+  unfolding marksOf bits
   marks-given s h =
       rw (
         same-test (isNamed (historyOf g t) s) (hasNamed (getD (t .marks) s 0)) (decides-named (historyOf g t) s) (decides-same (hasNamed (getD (t .marks) s 0))) (λ q. has-named q .1) (is-named s h),

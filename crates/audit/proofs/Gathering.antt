@@ -8,13 +8,14 @@ use Prim.Native.Nat.{ℕ, _+_, _<_, _≤_}
 use native.Mathlib.Omega.{arith}
 use native.Mathlib.Decide.{ℕ-discrete}
 use lib.Dec.{eqb}
-use lib.ListN.{getD}
+use lib.ListN.{length, getD}
 use borrow.Author.Tests.{eqb-true, eq-eqb}
 use Rattle.tables.specs.Work.{NoneVisited, marked}
+use Rattle.tables.specs.Keeping.{filled}
 use Rattle.search.specs.Spreading.{Arcs, Reached, start, back}
-use Rattle.search.proofs.Counting.{kept-none, kept-trans}
-use Rattle.audit.specs.Facts.{All, Backed, Backs, startsAt, seen}
-use Rattle.audit.specs.Parts.{Zeroed, Started, passed, spreads, Gathered, Answered}
+use Rattle.tables.proofs.Keeping.{kept-none, kept-trans, filled-at, filled-kept}
+use Rattle.audit.specs.Facts.{All, Backed, Backs, startsAt, covered}
+use Rattle.audit.specs.Parts.{Started, passed, spreads, Gathered, Answered}
 use Rattle.audit.proofs.Reading.{both-true}
 
 module _ {a : Arcs} {ok : ℕ → ℕ → Bool} where
@@ -92,28 +93,28 @@ pub zero-unmarked : (l : List ℕ) (s : ℕ) → getD l s 0 ≡ 0 → marked l s
 unfolding marked
 zero-unmarked l s e = rw e
 
-seen-marked : (verdict : ℕ) (status visited : List ℕ) (s : ℕ) → seen verdict status visited s ≡ true → getD status s 0 ≡ verdict → marked visited s ≡ true
-unfolding seen
-seen-marked verdict status visited s e k = rw (eq-eqb (getD status s 0) verdict k) at e
+covered-marked : (verdict : ℕ) (status visited : List ℕ) (s : ℕ) → covered verdict status visited s ≡ true → getD status s 0 ≡ verdict → marked visited s ≡ true
+unfolding covered
+covered-marked verdict status visited s e k = rw (eq-eqb (getD status s 0) verdict k) at e
 
-marked-seen : (verdict : ℕ) (status visited : List ℕ) (s : ℕ) → (getD status s 0 ≡ verdict → marked visited s ≡ true) → seen verdict status visited s ≡ true
-unfolding seen
-marked-seen verdict status visited s f = at (eqb (getD status s 0) verdict) refl
+marked-covered : (verdict : ℕ) (status visited : List ℕ) (s : ℕ) → (getD status s 0 ≡ verdict → marked visited s ≡ true) → covered verdict status visited s ≡ true
+unfolding covered
+marked-covered verdict status visited s f = at (eqb (getD status s 0) verdict) refl
   where
     at : (b : Bool) → eqb (getD status s 0) verdict ≡ b → not b || marked visited s ≡ true
     at true z = f (eqb-true (getD status s 0) verdict z)
     at false z = refl
 
 -- Whether each state with the verdict was visited; the marks are cleared.
-pub answered : {a : Arcs} {ok : ℕ → ℕ → Bool} {v q v′ q′ v″ : List ℕ} {r : Bool} (verdict : ℕ) (status marks : List ℕ) → Gathered (a .n) a ok (startsAt verdict status marks) v q v′ q′ → (r ≡ true) ↔ All (a .n) (seen verdict status v′) → Zeroed (a .n) v′ v″ → Answered (a .n) (Backs a ok verdict status marks) v q v″ q′ r
-answered {v′ = v′} {v″ = v″} verdict status marks g t z =
+pub answered : {a : Arcs} {ok : ℕ → ℕ → Bool} {v q v′ q′ v″ : List ℕ} {r : Bool} (verdict : ℕ) (status marks : List ℕ) → Gathered (a .n) a ok (startsAt verdict status marks) v q v′ q′ → (r ≡ true) ↔ All (a .n) (covered verdict status v′) → a .n ≤ length v′ → v″ ≡ filled (a .n) 0 v′ → Answered (a .n) (Backs a ok verdict status marks) v q v″ q′ r
+answered {a = a} {v′ = v′} {v″ = v″} verdict status marks g t w z =
     record {
       exact = (
-        λ e s h k. g .exact s h .0 (seen-marked verdict status v′ s (t .0 e s h) k),
-        λ b. t .1 (λ s h. marked-seen verdict status v′ s (λ k. g .exact s h .1 (b s h k))),
+        λ e s h k. g .exact s h .0 (covered-marked verdict status v′ s (t .0 e s h) k),
+        λ b. t .1 (λ s h. marked-covered verdict status v′ s (λ k. g .exact s h .1 (b s h k))),
       );
-      none = λ s h. zero-unmarked v″ s (z .zeros s h);
-      visits = kept-trans (g .visits) (z .kept);
+      none = λ s h. zero-unmarked v″ s (rw z (filled-at (a .n) 0 v′ s h));
+      visits = kept-trans (g .visits) (rw z (filled-kept (a .n) 0 v′ w));
       queues = g .queues;
     }
 

@@ -1,31 +1,28 @@
 -- The facts hold exactly where the tables fit; what the parts of the check answer, put together.
 -- Assumes nothing.
-use mathlib.Core.Path.{_≡_, refl, _∙_, ap}
+use mathlib.Core.Path.{_≡_, refl}
 use mathlib.Core.Logic.{_↔_}
 use mathlib.Core.Bool.{Bool, true, false, false≢true}
 use mathlib.Core.List.{List}
 use mathlib.Core.Option.{some, none}
 use Prim.Native.Nat.{ℕ, _<_, _≤_}
 use native.Mathlib.Omega.{arith}
-use lib.ListN.{length, getD, replicate, length-replicate}
-use borrow.Author.Tests.{le-leb}
+use lib.ListN.{length, getD}
 use Rattle.tables.specs.declared.Graph.{Graph}
-use Rattle.tables.specs.declared.lengths.Lengths.{Lengths}
-use Rattle.tables.specs.Tables.{Tables, enough, needs}
+use Rattle.tables.specs.Tables.{Tables, Long, enough, lengths, checkNeeds}
 use Rattle.tables.specs.Work.{NoneVisited}
 use Rattle.tables.specs.Refused.{lentNumber}
 use Rattle.tables.specs.Marks.{hasTerminal, hasClosed}
 use Rattle.tables.specs.Fitting.{Fits}
-use Rattle.tables.proofs.Refusing.{lent-passes, lent-refuses}
-use Rattle.search.specs.Counting.{Kept}
+use Rattle.tables.proofs.Sizes.{long-checked, long-fewer}
+use Rattle.tables.proofs.Refusing.{Lent, lent-leaves, lent-passes, lent-refuses}
+use Rattle.tables.specs.Keeping.{Kept}
 use Rattle.search.specs.Spreading.{arcs}
-use Rattle.search.proofs.Counting.{kept-none, kept-trans}
-use Rattle.engine.specs.Done.{tablesOf}
-use Rattle.engine.proofs.Promising.{room-of}
+use Rattle.tables.proofs.Keeping.{kept-none, kept-trans}
 use Rattle.audit.specs.declared.answer.Audit.the-variants.{Fits as Yes, Unfit as No, Refused}
 use Rattle.audit.specs.Facts.{All, stateFits, stepFits, TableFacts}
-use Rattle.audit.specs.Parts.{Below, ListFits, Answered, Claims, Long, Judged}
-use Rattle.audit.specs.Audited.{auditNeeds, refusalOf, Audited}
+use Rattle.audit.specs.Parts.{Below, ListFits, Answered, Claims, Judged}
+use Rattle.audit.specs.Audited.{auditRefusal, Audited}
 use Rattle.audit.proofs.Reading.{StepFacts, decides-state, decides-step}
 use Rattle.audit.proofs.Canonical.{canonical-legal}
 use Rattle.audit.proofs.Founding.{historyOf, founded}
@@ -72,61 +69,23 @@ judged t states sa steps sb into sc outOf sd claims =
       queues = kept-trans (into .kept) (kept-trans (outOf .kept) (claims .queues));
     }
 
--- the tables with another news list
-abbrev withNews : Tables → List ℕ → Tables
-withNews t news =
-    tablesOf (t .status) (t .marks) (t .from) (t .to) (t .successor) news (t .inHead) (t .outHead) (t .queue) (t .visited) (t .inNext) (t .outNext)
-
--- the lengths of the tables, with one for the news list
-abbrev lengthsWith : Tables → ℕ → Lengths
-lengthsWith t news =
-    record {
-      status = length (t .status);
-      marks = length (t .marks);
-      successor = length (t .successor);
-      news = news;
-      «in_head» = length (t .inHead);
-      «out_head» = length (t .outHead);
-      queue = length (t .queue);
-      visited = length (t .visited);
-      from = length (t .from);
-      to = length (t .to);
-      «in_next» = length (t .inNext);
-      «out_next» = length (t .outNext);
-    }
-
--- Where the news list is long enough, the lengths of the others decide.
-pub same-needs : (g : Graph) (t : Tables) (news : ℕ) → g .n ≤ news → enough (needs (g .n) (g .limit) (lengthsWith t news)) ≡ enough (auditNeeds g t)
-same-needs g t news h = rw (le-leb (g .n) news h)
-
 module _ (g : Graph) (t : Tables) where
-  module _ (lent : lentNumber g (enough (auditNeeds g t)) ≡ 0) where
+  module _ (passed : lentNumber g (enough (checkNeeds (g .n) (g .limit) (lengths t))) ≡ 0) where
+    -- what the tests 1 to 4 leave
+    leaves : Lent g (enough (checkNeeds (g .n) (g .limit) (lengths t)))
+    leaves = lent-leaves g (enough (checkNeeds (g .n) (g .limit) (lengths t))) passed
+
+    pub few : (g .n < 65536) × (g .steps < 65535)
+    few = omega (arith, leaves)
+
     pub long-enough : Long (g .n) (g .steps) t
-    long-enough =
-        let l : List ℕ = replicate (g .n) 0 in
-        let size : g .n ≤ length l = rw (length-replicate {A = ℕ} (g .n) 0) (omega arith) in
-        let r = room-of g (withNews t l) (ap (lentNumber g) (same-needs g t (length l) size) ∙ lent) in
-        record {
-          states = omega (arith, r .states);
-          steps = omega (arith, r .steps, r .bound);
-          status = r .status;
-          marks = r .marks;
-          from = omega (arith, r .steps, r .from);
-          to = omega (arith, r .steps, r .to);
-          successor = r .successor;
-          inHead = r .inHead;
-          outHead = r .outHead;
-          queue = r .queue;
-          visited = r .visited;
-          inNext = omega (arith, r .steps, r .inNext);
-          outNext = omega (arith, r .steps, r .outNext);
-        }
+    long-enough = long-fewer (leaves .room) (long-checked (g .n) (g .limit) t (leaves .longs))
 
     fits : TableFacts (g .n) (g .steps) t ↔ Fits g t
     fits = facts-fit g t (long-enough .from) (long-enough .to)
 
-    none-refused : (k : ℕ) → refusalOf g t ≡ some k → ⊥
-    none-refused k e = let p = lent-passes g (enough (auditNeeds g t)) (t .marks) (t .status) lent in let z : _≡_ {A = ℕ} 0 1 = cc in omega arith
+    none-refused : (k : ℕ) → auditRefusal g t ≡ some k → ⊥
+    none-refused k e = let p = lent-passes g (enough (checkNeeds (g .n) (g .limit) (lengths t))) (t .marks) (t .status) passed in let z : _≡_ {A = ℕ} 0 1 = cc in omega arith
 
     -- A yes,
     pub says-yes : {queue visited : List ℕ} → Judged (g .n) (g .steps) t true queue visited → Audited g t Yes queue visited
@@ -168,9 +127,9 @@ module _ (g : Graph) (t : Tables) where
         }
 
   -- and a refusal.
-  pub says-refused : (k : ℕ) → lentNumber g (enough (auditNeeds g t)) ≡ k → (k ≡ 0 → ⊥) → Audited g t (Refused k) (t .queue) (t .visited)
+  pub says-refused : (k : ℕ) → lentNumber g (enough (checkNeeds (g .n) (g .limit) (lengths t))) ≡ k → (k ≡ 0 → ⊥) → Audited g t (Refused k) (t .queue) (t .visited)
   says-refused k e n =
-      let r = lent-refuses g (enough (auditNeeds g t)) (t .marks) (t .status) k e n in
+      let r = lent-refuses g (enough (checkNeeds (g .n) (g .limit) (lengths t))) (t .marks) (t .status) k e n in
       record {
         refused = λ j. (λ q. let z : k ≡ j = cc in rw z at r, λ q. let z : k ≡ j = cc in rw z);
         unchanged = λ j q. (refl, refl);

@@ -2,9 +2,9 @@
 -- Assumes nothing.
 use mathlib.Core.Path.{_≡_, refl, sym, _∙_, subst}
 use mathlib.Core.Logic.{inl, inr}
-use mathlib.Core.Bool.{Bool, true, false, cond, false≢true}
+use mathlib.Core.Bool.{Bool, true, false, false≢true}
 use mathlib.Core.List.{List}
-use Prim.Native.Nat.{ℕ, zero, suc, _+_, _<_, _≤_}
+use Prim.Native.Nat.{ℕ, zero, suc, _<_, _≤_}
 use native.Mathlib.Omega.{arith}
 use native.Mathlib.Decide.{ℕ-discrete}
 use lib.ListN.{getD}
@@ -25,32 +25,18 @@ use Rattle.tables.specs.Tables.{Tables}
 use Rattle.tables.specs.Marks.{hasNamed, hasTerminal, hasClosed}
 use Rattle.tables.specs.Work.{lastBefore}
 use Rattle.tables.specs.Fitting.{marksOf, Consistent}
+use Rattle.tables.proofs.Bits.{bits, byte, marks-bits, closed-bit}
 use Rattle.tables.proofs.Listed.{step-listed, listed-step}
 use Rattle.adjacency.proofs.Walks.{linked, last-here, last-earlier}
 use Rattle.search.specs.declared.spread.Mode.the-variants.{Tree, Claimed}
 use Rattle.search.specs.Spreading.{arcs, allowed, start, back}
-use Rattle.engine.proofs.Listing.{closed-bit}
 use Rattle.audit.specs.Facts.{starts, startsAt, Backed, TableFacts}
 use Rattle.audit.proofs.Reading.{Suited, as-unseen, as-open, as-unknown, as-dead, as-live, StateFacts, decides-state, StepFacts, decides-step}
 
--- The marks of a history as a byte: its bits, and the byte of each status.
+-- The byte of each status.
 module _ (h : History) (s : ℕ) where
-  bits : (hasNamed (marksOf h s) ≡ isNamed h s) × (hasTerminal (marksOf h s) ≡ isTerminal h s) × (marksOf h s ≤ 7)
-  unfolding marksOf
-  bits = at (isNamed h s) (isTerminal h s) (isClosed h s)
-    where
-      at : (a b c : Bool) → (hasNamed (cond a 1 0 + cond b 2 0 + cond c 4 0) ≡ a) × (hasTerminal (cond a 1 0 + cond b 2 0 + cond c 4 0) ≡ b) × (cond a 1 0 + cond b 2 0 + cond c 4 0 ≤ 7)
-      at true true true = (refl, refl, omega arith)
-      at true true false = (refl, refl, omega arith)
-      at true false true = (refl, refl, omega arith)
-      at true false false = (refl, refl, omega arith)
-      at false true true = (refl, refl, omega arith)
-      at false true false = (refl, refl, omega arith)
-      at false false true = (refl, refl, omega arith)
-      at false false false = (refl, refl, omega arith)
-
-  marks-are : {a b c : Bool} → isNamed h s ≡ a → isTerminal h s ≡ b → isClosed h s ≡ c → marksOf h s ≡ cond a 1 0 + cond b 2 0 + cond c 4 0
-  unfolding marksOf
+  marks-are : {a b c : Bool} → isNamed h s ≡ a → isTerminal h s ≡ b → isClosed h s ≡ c → marksOf h s ≡ bits a b c
+  unfolding marksOf bits
   marks-are p q r = rw (p, q, r)
 
   named : IsNamed h s → isNamed h s ≡ true
@@ -62,12 +48,16 @@ module _ (h : History) (s : ℕ) where
   shut : IsClosed h s → isClosed h s ≡ true
   shut = decides-closed h s .complete
 
+  low : marksOf h s ≤ 7
+  low = rw (marks-are refl refl refl) (byte (isNamed h s) (isTerminal h s) (isClosed h s) .low)
+
   -- Each status has its byte of marks.
   suited : Suited (status h s) (marksOf h s)
+  unfolding bits
   suited = at (classified h s)
     where
       at : {k : ℕ} → Classified h s k → Suited k (marksOf h s)
-      at (is-live e l) = as-live e (bits .2) (bits .0 ∙ named (live-named l))
+      at (is-live e l) = as-live e low (marks-bits h s .0 ∙ named (live-named l))
       at (is-dead e d) = as-dead e (marks-are (named (closed-named (dead-closed d))) (unlive (dead-not-live d)) (shut (dead-closed d)))
       at (is-unknown e c l d) = as-unknown e (marks-are (named (closed-named c)) (unlive l) (shut c))
       at (is-open e n c l) = as-open e (marks-are (named n) (unlive l) (refutes (isClosed h s) (decides-closed h s) c))
@@ -88,16 +78,16 @@ last-some ends (suc m) p h = at (ℕ-discrete (getD ends m 0) (getD ends p 0)) (
 module _ {h : History} {g : Graph} {t : Tables} (c : Consistent h g t) where
   -- the marks that the tables have
   named-mark : (s : ℕ) → s < g .n → IsNamed h s → hasNamed (getD (t .marks) s 0) ≡ true
-  named-mark s k q = rw (c .marks s k) (bits h s .0 ∙ decides-named h s .complete q)
+  named-mark s k q = rw (c .marks s k) (marks-bits h s .0 ∙ decides-named h s .complete q)
 
   terminal-mark : (s : ℕ) → s < g .n → IsTerminal h s → hasTerminal (getD (t .marks) s 0) ≡ true
-  terminal-mark s k q = rw (c .marks s k) (bits h s .1 ∙ decides-terminal h s .complete q)
+  terminal-mark s k q = rw (c .marks s k) (marks-bits h s .1 ∙ decides-terminal h s .complete q)
 
   closed-mark : (s : ℕ) → s < g .n → IsClosed h s → hasClosed (getD (t .marks) s 0) ≡ true
   closed-mark s k q = rw (c .marks s k) (closed-bit h s ∙ decides-closed h s .complete q)
 
   mark-named : (s : ℕ) → s < g .n → hasNamed (getD (t .marks) s 0) ≡ true → IsNamed h s
-  mark-named s k e = decides-named h s .sound (sym (bits h s .0) ∙ rw (c .marks s k) at e)
+  mark-named s k e = decides-named h s .sound (sym (marks-bits h s .0) ∙ rw (c .marks s k) at e)
 
   -- a state that is only named is an end of a step
   head-some : (s : ℕ) → s < g .n → getD (t .marks) s 0 ≡ 1 → getD (t .inHead) s 0 ≡ 0 → getD (t .outHead) s 0 ≡ 0 → ⊥

@@ -62,8 +62,8 @@ abbrev pub startsAt : ℕ → (status marks : List ℕ) → ℕ → Bool
 startsAt verdict status marks s = starts verdict (getD status s 0) (getD marks s 0)
 
 -- A state with the verdict is visited.
-unfoldable pub seen : ℕ → (status visited : List ℕ) → ℕ → Bool
-seen verdict status visited s = not (eqb (getD status s 0) verdict) || marked visited s
+unfoldable pub covered : ℕ → (status visited : List ℕ) → ℕ → Bool
+covered verdict status visited s = not (eqb (getD status s 0) verdict) || marked visited s
 
 -- The state w is reached backwards from one of the starts below k.
 abbrev pub Backed : ℕ → Arcs → (ℕ → ℕ → Bool) → (ℕ → Bool) → ℕ → Type 0

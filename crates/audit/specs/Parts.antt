@@ -4,21 +4,16 @@ use mathlib.Core.Path.{_≡_}
 use mathlib.Core.Logic.{_↔_}
 use mathlib.Core.Bool.{Bool, true, false}
 use mathlib.Core.List.{List}
-use Prim.Native.Nat.{ℕ, _+_, _<_, _≤_}
-use lib.ListN.{length, getD, set}
+use Prim.Native.Nat.{ℕ, _+_, _<_}
+use lib.ListN.{getD, set}
 use Rattle.gid.specs.Statuses.{statusUnknown, statusLive}
 use Rattle.tables.specs.Tables.{Tables}
 use Rattle.tables.specs.Work.{ListRule, NoneVisited, lastBefore, marked}
 use Rattle.search.specs.declared.spread.Mode.the-variants.{Tree, Claimed}
 use Rattle.search.specs.declared.spread.Span.{Span}
-use Rattle.search.specs.Counting.{Kept}
+use Rattle.tables.specs.Keeping.{Kept}
 use Rattle.search.specs.Spreading.{Arcs, allowed, Spread}
 use Rattle.audit.specs.Facts.{Backed, Backs, TableFacts}
-
--- The first n entries are 0.
-pub record Zeroed (n : ℕ) (l l′ : List ℕ) : Type 0 where
-  pub zeros : (s : ℕ) → s < n → getD l′ s 0 ≡ 0
-  pub kept : Kept n l l′
 
 -- The ends of the first m steps are states.
 abbrev pub Below : ℕ → ℕ → List ℕ → Type 0
@@ -38,12 +33,12 @@ abbrev pub Nexts : ℕ → List ℕ → List ℕ → Type 0
 Nexts m ends next = (p : ℕ) → p < m → getD next p 0 ≡ lastBefore ends p (getD ends p 0)
 
 -- The table holds, for each state, the last of the first m steps with that end.
-abbrev pub Lasts : ℕ → ℕ → List ℕ → List ℕ → Type 0
-Lasts n m ends last = (v : ℕ) → v < n → getD last v 0 ≡ lastBefore ends m v
+abbrev pub LastSteps : ℕ → ℕ → List ℕ → List ℕ → Type 0
+LastSteps n m ends last = (v : ℕ) → v < n → getD last v 0 ≡ lastBefore ends m v
 
 pub record NextsFit (n m : ℕ) (ends next last last′ : List ℕ) (r : Bool) : Type 0 where
   pub exact : (r ≡ true) ↔ Nexts m ends next
-  pub lasts : r ≡ true → Lasts n m ends last′
+  pub lasts : r ≡ true → LastSteps n m ends last′
   pub kept : Kept n last last′
 
 pub record ListFits (n m : ℕ) (ends head next last last′ : List ℕ) (r : Bool) : Type 0 where
@@ -72,22 +67,6 @@ pub record Answered (n : ℕ) (P : Type 0) (visited queue visited′ queue′ : 
 abbrev pub Claims : Arcs → (status marks successor : List ℕ) → Type 0
 Claims a status marks successor =
     Backs a (allowed Claimed status successor) statusLive status marks × Backs a (allowed Tree status successor) statusUnknown status marks
-
--- What the tests 1 to 4 leave.
-pub record Long (n m : ℕ) (t : Tables) : Type 0 where
-  pub states : n < 65536
-  pub steps : m < 65535
-  pub status : n ≤ length (t .status)
-  pub marks : n ≤ length (t .marks)
-  pub from : m ≤ length (t .from)
-  pub to : m ≤ length (t .to)
-  pub successor : n ≤ length (t .successor)
-  pub inHead : n ≤ length (t .inHead)
-  pub outHead : n ≤ length (t .outHead)
-  pub queue : n ≤ length (t .queue)
-  pub visited : n ≤ length (t .visited)
-  pub inNext : m ≤ length (t .inNext)
-  pub outNext : m ≤ length (t .outNext)
 
 -- Whether the facts hold. After a yes no state is marked visited.
 pub record Judged (n m : ℕ) (t : Tables) (r : Bool) (queue′ visited′ : List ℕ) : Type 0 where

@@ -6,15 +6,16 @@ ghost use Prim.Native.Nat.{_≤_, _<_};
 ghost use lib.ListN.{length};
 ghost use Rattle.tables.specs.Work.{NoneVisited};
 ghost use Rattle.search.specs.Spreading.{arcs, Walkable, allowed, fresh};
-ghost use Rattle.audit.specs.Facts.{All, starts, startsAt, seen, Backs};
+ghost use Rattle.audit.specs.Facts.{All, starts, startsAt, covered, Backs};
 ghost use Rattle.audit.specs.Parts.{Answered, Claims, Gathered, Started};
-use super::zero::zero;
 use search::spread::Mode;
 use search::spread::spread;
 use search::visits::is_visited;
 use tables::LIVE;
 use tables::OPEN;
 use tables::UNKNOWN;
+use tables::fill;
+use tables::has_terminal;
 
 // Whether the live states reach a terminal one, and the unknown states escape.
 pub fn claims_fit(
@@ -105,8 +106,8 @@ fn claimed(
         queue,
         visited,
     );
-    let all = all_seen(n, verdict, status, visited);
-    zero(n, visited);
+    let all = all_covered(n, verdict, status, visited);
+    fill(visited, n, 0);
     all
 }
 
@@ -201,18 +202,18 @@ fn starts(verdict: u8, status: u8, mark: u8) -> bool
     ensures { λ r. ⌜ r ≡ starts verdict status mark ⌝ }
 {
     if verdict == LIVE {
-        return mark / 2 % 2 == 1;
+        return has_terminal(mark);
     }
     status == OPEN
 }
 
-fn all_seen(n: usize, verdict: u8, status: &[u8], visited: &[u16]) -> bool
+fn all_covered(n: usize, verdict: u8, status: &[u8], visited: &[u16]) -> bool
     requires { ⌜ (n ≤ length (now status)) × (n ≤ length (now visited)) ⌝ }
-    ensures { λ r. ⌜ (r ≡ true) ↔ All n (seen verdict (now (status .entry)) (now (visited .entry))) ⌝ }
+    ensures { λ r. ⌜ (r ≡ true) ↔ All n (covered verdict (now (status .entry)) (now (visited .entry))) ⌝ }
 {
     let mut s = 0;
     while s < n {
-        if is_seen(s, verdict, status, visited) {
+        if is_covered(s, verdict, status, visited) {
             s = s + 1;
         } else {
             return false;
@@ -221,9 +222,9 @@ fn all_seen(n: usize, verdict: u8, status: &[u8], visited: &[u16]) -> bool
     true
 }
 
-fn is_seen(s: usize, verdict: u8, status: &[u8], visited: &[u16]) -> bool
+fn is_covered(s: usize, verdict: u8, status: &[u8], visited: &[u16]) -> bool
     requires { ⌜ (s < length (now status)) × (s < length (now visited)) ⌝ }
-    ensures { λ r. ⌜ r ≡ seen verdict (now (status .entry)) (now (visited .entry)) s ⌝ }
+    ensures { λ r. ⌜ r ≡ covered verdict (now (status .entry)) (now (visited .entry)) s ⌝ }
 {
     if status[s] != verdict {
         return true;

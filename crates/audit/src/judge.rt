@@ -1,8 +1,8 @@
 // Whether tables that are long enough fit: states and steps by their entries, then the lists of steps, then what the statuses claim.
-ghost use Rattle.engine.specs.Done.{tablesOf};
 ghost use mathlib.Core.List.{List, []};
-ghost use Prim.Native.Nat.{ℕ};
-ghost use Rattle.audit.specs.Parts.{Long, Judged};
+ghost use Prim.Native.Nat.{ℕ, _<_};
+ghost use Rattle.tables.specs.Tables.{tablesOf, Long};
+ghost use Rattle.audit.specs.Parts.{Judged};
 use super::claims::claims_fit;
 use super::lists::list_fits;
 use super::states::states_fit;
@@ -23,6 +23,7 @@ pub fn judge(
     in_next: &[u16],
     out_next: &[u16],
 ) -> bool
+    requires { ⌜ (n < 65536) × (steps < 65535) ⌝ }
     requires { ⌜ Long n steps (tablesOf (now status) (now marks) (now from) (now to) (now successor) [] (now «in_head») (now «out_head») (now queue) (now visited) (now «in_next») (now «out_next»)) ⌝ }
     ensures { λ r. ⌜ ((news : List ℕ) → Judged n steps (tablesOf (now (status .entry)) (now (marks .entry)) (now (from .entry)) (now (to .entry)) (now (successor .entry)) news (now («in_head» .entry)) (now («out_head» .entry)) (now (queue .entry)) (now (visited .entry)) (now («in_next» .entry)) (now («out_next» .entry))) r (now (queue .exit)) (now (visited .exit))) ⌝ }
 {

@@ -1,7 +1,7 @@
 // The table check: whether stored tables can be trusted.
 ghost use mathlib.Core.List.{List};
 ghost use Prim.Native.Nat.{ℕ};
-ghost use Rattle.engine.specs.Done.{tablesOf};
+ghost use Rattle.tables.specs.Tables.{tablesOf};
 ghost use Rattle.audit.specs.Audited.{Audited};
 
 mod answer;
@@ -10,7 +10,6 @@ mod judge;
 mod lists;
 mod states;
 mod steps;
-mod zero;
 
 pub use answer::Audit;
 use tables::Graph;
@@ -37,12 +36,12 @@ pub fn audit(
     let n = graph.n;
     let limit = graph.limit;
     let steps = graph.steps;
-    // No news list is lent, so none is too short.
+    // No news list is lent.
     let lengths = Lengths {
         status: status.len(),
         marks: marks.len(),
         successor: successor.len(),
-        news: n,
+        news: 0,
         in_head: in_head.len(),
         out_head: out_head.len(),
         queue: queue.len(),
@@ -52,7 +51,7 @@ pub fn audit(
         in_next: in_next.len(),
         out_next: out_next.len(),
     };
-    let refused = graph.lent(lengths.enough(n, limit));
+    let refused = graph.lent(lengths.enough_to_check(n, limit));
     if refused != 0 {
         return Audit::Refused(refused);
     }

@@ -3,10 +3,11 @@
 ghost use mathlib.Core.Path.{_≡_};
 ghost use mathlib.Core.Logic.{_↔_};
 ghost use mathlib.Core.Bool.{true};
-ghost use Prim.Native.Nat.{ℕ, _≤_, _<_};
-ghost use lib.ListN.{length, getD};
+ghost use Prim.Native.Nat.{_≤_, _<_};
+ghost use lib.ListN.{length};
+ghost use Rattle.tables.specs.Fitting.{AllBelow};
 ghost use Rattle.audit.specs.Parts.{Below, Same, ListFits, NextsFit, NextFits};
-use super::zero::zero;
+use tables::fill;
 use tables::wide;
 
 pub fn list_fits(
@@ -21,7 +22,7 @@ pub fn list_fits(
     requires { ⌜ Below n steps (now ends) ⌝ }
     ensures { λ r. ⌜ ListFits n steps (now (ends .entry)) (now (head .entry)) (now (next .entry)) (now (last .entry)) (now (last .exit)) r ⌝ }
 {
-    zero(n, last);
+    fill(last, n, 0);
     if nexts_fit(n, steps, ends, next, last) {
         return heads_fit(n, head, last);
     }
@@ -31,7 +32,7 @@ pub fn list_fits(
 // Each next entry leads to the last step before with the same end.
 fn nexts_fit(n: usize, steps: usize, ends: &[u16], next: &[u16], last: &mut [u16]) -> bool
     requires { ⌜ (steps < 65535) × (steps ≤ length (now ends)) × (steps ≤ length (now next)) × (n ≤ length (now last)) ⌝ }
-    requires { ⌜ Below n steps (now ends) × ((v : ℕ) → v < n → getD (now last) v 0 ≡ 0) ⌝ }
+    requires { ⌜ Below n steps (now ends) × AllBelow n 0 (now last) ⌝ }
     ensures { λ r. ⌜ NextsFit n steps (now (ends .entry)) (now (next .entry)) (now (last .entry)) (now (last .exit)) r ⌝ }
 {
     let mut p = 0;

@@ -12,6 +12,7 @@ use tables::NO_SUCCESSOR;
 use tables::OPEN;
 use tables::UNKNOWN;
 use tables::UNSEEN;
+use tables::has_named;
 use tables::wide;
 
 // The bytes of a state that is named, with no other mark, and of one that is closed besides.
@@ -102,7 +103,7 @@ fn suits(status: u8, mark: u8) -> bool
         if MOST < mark {
             return false;
         }
-        return mark % 2 == 1;
+        return has_named(mark);
     }
     false
 }

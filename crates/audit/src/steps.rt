@@ -7,6 +7,7 @@ ghost use lib.ListN.{length, getD};
 ghost use Rattle.audit.specs.Facts.{All, agrees, bothNamed, stepFits};
 use tables::DEAD;
 use tables::LIVE;
+use tables::has_named;
 use tables::wide;
 
 // Whether each listed step has both ends among the named states, and their statuses agree.
@@ -51,8 +52,8 @@ fn step_fits(n: usize, u: usize, v: usize, status: &[u8], marks: &[u8]) -> bool
 fn both_named(source: u8, target: u8) -> bool
     ensures { λ r. ⌜ r ≡ bothNamed source target ⌝ }
 {
-    if source % 2 == 1 {
-        return target % 2 == 1;
+    if has_named(source) {
+        return has_named(target);
     }
     false
 }

@@ -1,47 +1,60 @@
 // The calls for C and Rust: thin exports of the library's calls, with the same numbers. include/radvoinis.h declares them.
 ghost use mathlib.Core.Path.{_≡_};
 ghost use mathlib.Core.List.{List};
+ghost use mathlib.Core.Option.{some};
 ghost use Prim.Native.Nat.{ℕ, _+_};
 ghost use mathlib.Core.Bool.{cond};
 ghost use lib.Dec.{leb};
 ghost use lib.ListN.{length};
 ghost use Rattle.tables.specs.Refused.{statusAnswer};
-ghost use Rattle.engine.specs.Done.{tablesOf};
-ghost use Rattle.writer.specs.Answering.{written, bufferAfter};
+ghost use Rattle.tables.specs.Tables.{tablesOf};
+ghost use Rattle.writer.specs.Answering.{writeAnswer, bufferAfter};
 ghost use Rattle.query.specs.Answering.{answerOf};
-ghost use Rattle.capi.specs.Calls.{sentBy, Called, statusCode, Checked, writeCode, placeAfter};
+ghost use Rattle.capi.specs.Calls.{kindBy, kindRefusal, Called, codeBy, AuditCalled, placeAfter};
 use audit::Audit;
 use engine::Answer;
 use engine::Engine;
 use gid::Update;
+use reader::RECORD_LIMIT;
+use record::MALFORMED;
 use tables::Graph;
+use tables::Lengths;
+use tables::MAX_STATES;
 use tables::Status;
 use writer::Written;
 
 // What a refusal adds to its number, so that it differs from every number of news and from every status.
 const REFUSED: u32 = 65536;
 
-// The number of a malformed line, for a kind that is none of E, T and C.
-const MALFORMED: u32 = 11;
-
 // The update that a kind byte and two states say, or none.
-enum Sent {
-    Update(Update),
-    Malformed,
+enum Kind {
+    Known(Update),
+    Unknown,
 }
 
-fn update_of(kind: u8, first: usize, second: usize) -> Sent
-    ensures { λ r. ⌜ r ≡ sentBy kind first second ⌝ }
+fn update_of(kind: u8, first: usize, second: usize) -> Kind
+    ensures { λ r. ⌜ r ≡ kindBy kind first second ⌝ }
 {
     match kind {
-        b'E' => Sent::Update(Update::Step {
+        b'E' => Kind::Known(Update::Step {
             from: first,
             to: second,
         }),
-        b'T' => Sent::Update(Update::Terminal { state: first }),
-        b'C' => Sent::Update(Update::Close { state: first }),
-        _ => Sent::Malformed,
+        b'T' => Kind::Known(Update::Terminal { state: first }),
+        b'C' => Kind::Known(Update::Close { state: first }),
+        _ => Kind::Unknown,
     }
+}
+
+// The number of a kind that is none of E, T and C: that of a malformed line, behind the tests 1 to 4.
+fn refused_kind(graph: Graph, lengths: Lengths) -> u8
+    ensures { λ r. ⌜ kindRefusal graph lengths ≡ some r ⌝ }
+{
+    let lent = graph.lent(lengths.enough(graph.n, graph.limit));
+    if lent != 0 {
+        return lent;
+    }
+    MALFORMED
 }
 
 // An update of the given kind (the byte E, T or C) on the caller's tables. Answers the number of its news, or 65,536 plus the number of its refusal; the number of steps is brought up to date.
@@ -66,11 +79,32 @@ pub extern "C" fn radvoinis_update(
     in_next: &mut [u16],
     out_next: &mut [u16],
 ) -> u32
-    ensures { λ r. ⌜ Called n limit (now (steps .entry)) (sentBy kind first second) (tablesOf (now (status .entry)) (now (marks .entry)) (now (from .entry)) (now (to .entry)) (now (successor .entry)) (now (news .entry)) (now («in_head» .entry)) (now («out_head» .entry)) (now (queue .entry)) (now (visited .entry)) (now («in_next» .entry)) (now («out_next» .entry))) (now (steps .exit)) (tablesOf (now (status .exit)) (now (marks .exit)) (now (from .exit)) (now (to .exit)) (now (successor .exit)) (now (news .exit)) (now («in_head» .exit)) (now («out_head» .exit)) (now (queue .exit)) (now (visited .exit)) (now («in_next» .exit)) (now («out_next» .exit))) r ⌝ }
+    ensures { λ r. ⌜ Called n limit (now (steps .entry)) (kindBy kind first second) (tablesOf (now (status .entry)) (now (marks .entry)) (now (from .entry)) (now (to .entry)) (now (successor .entry)) (now (news .entry)) (now («in_head» .entry)) (now («out_head» .entry)) (now (queue .entry)) (now (visited .entry)) (now («in_next» .entry)) (now («out_next» .entry))) (now (steps .exit)) (tablesOf (now (status .exit)) (now (marks .exit)) (now (from .exit)) (now (to .exit)) (now (successor .exit)) (now (news .exit)) (now («in_head» .exit)) (now («out_head» .exit)) (now (queue .exit)) (now (visited .exit)) (now («in_next» .exit)) (now («out_next» .exit))) r ⌝ }
 {
     match update_of(kind, first, second) {
-        Sent::Malformed => REFUSED + MALFORMED,
-        Sent::Update(update) => {
+        Kind::Unknown => {
+            let graph = Graph {
+                n,
+                limit,
+                steps: *steps,
+            };
+            let lengths = Lengths {
+                status: status.len(),
+                marks: marks.len(),
+                successor: successor.len(),
+                news: news.len(),
+                in_head: in_head.len(),
+                out_head: out_head.len(),
+                queue: queue.len(),
+                visited: visited.len(),
+                from: from.len(),
+                to: to.len(),
+                in_next: in_next.len(),
+                out_next: out_next.len(),
+            };
+            REFUSED + refused_kind(graph, lengths) as u32
+        }
+        Kind::Known(update) => {
             let engine = Engine {
                 graph: Graph {
                     n,
@@ -113,7 +147,7 @@ pub extern "C" fn radvoinis_state_status(
     status: &[u8],
     state: usize,
 ) -> u32
-    ensures { λ r. ⌜ r ≡ statusCode (statusAnswer (record { n = n; limit = limit; steps = steps }) (now (status .entry)) state) ⌝ }
+    ensures { λ r. ⌜ r ≡ codeBy (λ b. b) (statusAnswer (record { n = n; limit = limit; steps = steps }) (now (status .entry)) state) ⌝ }
 {
     let graph = Graph { n, limit, steps };
     match graph.status(status, state) {
@@ -124,7 +158,7 @@ pub extern "C" fn radvoinis_state_status(
 
 // The length of the news part: the first `count` entries of the news list, none where `count` is above its length.
 #[no_mangle]
-pub extern "C" fn radvoinis_news_len(news: &mut [u16], count: usize) -> usize
+pub extern "C" fn radvoinis_news_len(news: &[u16], count: usize) -> usize
     ensures { λ r. ⌜ r ≡ cond (leb count (length (now (news .entry)))) count 0 ⌝ }
 {
     let part = engine::news_part(news, count);
@@ -149,7 +183,7 @@ pub extern "C" fn radvoinis_audit(
     in_next: &[u16],
     out_next: &[u16],
 ) -> u32
-    ensures { λ r. ⌜ ((news : List ℕ) → Checked (record { n = n; limit = limit; steps = steps }) (tablesOf (now (status .entry)) (now (marks .entry)) (now (from .entry)) (now (to .entry)) (now (successor .entry)) news (now («in_head» .entry)) (now («out_head» .entry)) (now (queue .entry)) (now (visited .entry)) (now («in_next» .entry)) (now («out_next» .entry))) r (now (queue .exit)) (now (visited .exit))) ⌝ }
+    ensures { λ r. ⌜ ((news : List ℕ) → AuditCalled (record { n = n; limit = limit; steps = steps }) (tablesOf (now (status .entry)) (now (marks .entry)) (now (from .entry)) (now (to .entry)) (now (successor .entry)) news (now («in_head» .entry)) (now («out_head» .entry)) (now (queue .entry)) (now (visited .entry)) (now («in_next» .entry)) (now («out_next» .entry))) r (now (queue .exit)) (now (visited .exit))) ⌝ }
 {
     let graph = Graph { n, limit, steps };
     match audit::audit(
@@ -184,8 +218,8 @@ pub extern "C" fn radvoinis_write(
     buf: &mut [u8],
     at: &mut usize,
 ) -> u32
-    ensures { λ r. ⌜ (r ≡ writeCode (written (record { n = n; limit = limit; steps = steps }) (now (marks .entry)) (now (from .entry)) (now (to .entry)) (now (buf .entry)) (now (at .entry))))
-        × (now (at .exit) ≡ placeAfter (written (record { n = n; limit = limit; steps = steps }) (now (marks .entry)) (now (from .entry)) (now (to .entry)) (now (buf .entry)) (now (at .entry))) (now (at .entry)))
+    ensures { λ r. ⌜ (r ≡ codeBy (λ place. 0) (writeAnswer (record { n = n; limit = limit; steps = steps }) (now (marks .entry)) (now (from .entry)) (now (to .entry)) (now (buf .entry)) (now (at .entry))))
+        × (now (at .exit) ≡ placeAfter (writeAnswer (record { n = n; limit = limit; steps = steps }) (now (marks .entry)) (now (from .entry)) (now (to .entry)) (now (buf .entry)) (now (at .entry))) (now (at .entry)))
         × (now (buf .exit) ≡ bufferAfter (record { n = n; limit = limit; steps = steps }) (now (marks .entry)) (now (from .entry)) (now (to .entry)) (now (buf .entry)) (now (at .entry))) ⌝ }
 {
     let graph = Graph { n, limit, steps };
@@ -203,18 +237,18 @@ pub extern "C" fn radvoinis_write(
 pub extern "C" fn radvoinis_status(bytes: &[u8], state: u32) -> u8
     ensures { λ r. ⌜ r ≡ answerOf (now (bytes .entry)) state ⌝ }
 {
-    let mut status = [0u8; 2048];
-    let mut marks = [0u8; 2048];
-    let mut from = [0u16; 2048];
-    let mut to = [0u16; 2048];
-    let mut successor = [0u16; 2048];
-    let mut news = [0u16; 2048];
-    let mut in_head = [0u16; 2048];
-    let mut out_head = [0u16; 2048];
-    let mut queue = [0u16; 2048];
-    let mut visited = [0u16; 2048];
-    let mut in_next = [0u16; 2048];
-    let mut out_next = [0u16; 2048];
+    let mut status = [0u8; MAX_STATES];
+    let mut marks = [0u8; MAX_STATES];
+    let mut from = [0u16; RECORD_LIMIT];
+    let mut to = [0u16; RECORD_LIMIT];
+    let mut successor = [0u16; MAX_STATES];
+    let mut news = [0u16; MAX_STATES];
+    let mut in_head = [0u16; MAX_STATES];
+    let mut out_head = [0u16; MAX_STATES];
+    let mut queue = [0u16; MAX_STATES];
+    let mut visited = [0u16; MAX_STATES];
+    let mut in_next = [0u16; RECORD_LIMIT];
+    let mut out_next = [0u16; RECORD_LIMIT];
     query::status_after(
         bytes,
         state as usize,

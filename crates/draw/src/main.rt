@@ -1,36 +1,45 @@
-// The drawing program: reads a record on standard input in large pieces, and writes the picture of where it ends to standard output.
+// The drawing program: reads a record on standard input, and writes the picture of where it ends to standard output. What is read and written next, and when it is over, the library decides.
+ghost use mathlib.Core.Path.{_≡_};
+ghost use mathlib.Core.Bool.{true};
+ghost use mathlib.Core.Option.{none};
 ghost use Prim.Native.Nat.{_≤_};
 ghost use lib.ListN.{length};
-ghost use Rattle.engine.specs.Done.{tablesOf};
+ghost use Rattle.tables.specs.Tables.{tablesOf};
+ghost use Rattle.reader.specs.Opening.{openRefusal};
+ghost use Rattle.reader.specs.Reading.{recordLimit};
 ghost use Rattle.picture.specs.Picture.{pictureRoom};
-ghost use Rattle.picture.specs.Reading.{Stands};
-use engine::Engine;
-use libc::STDIN_FILENO;
-use libc::STDOUT_FILENO;
+ghost use Rattle.draw.specs.Ending.{EndsDrawing};
+use picture::Drawer;
 use picture::PICTURE_ROOM;
-use reader::Opened;
-use reader::Reader;
-use record::Splitter;
+use reader::RECORD_LIMIT;
+use streams::Served;
+use tables::MAX_STATES;
 
-// The step limit, as the listing program has it.
-const LIMIT: usize = 2048;
+// The bytes of the input that are read at once.
+const INPUT: usize = 65536;
+
+// Where a drawing ended, and whether its last text was written.
+struct DrawingEnd {
+    drawer: Drawer,
+    over: bool,
+}
 
 fn main() {
-    let mut status = [0u8; 2048];
-    let mut marks = [0u8; 2048];
-    let mut from = [0u16; 2048];
-    let mut to = [0u16; 2048];
-    let mut successor = [0u16; 2048];
-    let mut news = [0u16; 2048];
-    let mut in_head = [0u16; 2048];
-    let mut out_head = [0u16; 2048];
-    let mut queue = [0u16; 2048];
-    let mut visited = [0u16; 2048];
-    let mut in_next = [0u16; 2048];
-    let mut out_next = [0u16; 2048];
-    let mut input = [0u8; 65536];
+    let mut status = [0u8; MAX_STATES];
+    let mut marks = [0u8; MAX_STATES];
+    let mut from = [0u16; RECORD_LIMIT];
+    let mut to = [0u16; RECORD_LIMIT];
+    let mut successor = [0u16; MAX_STATES];
+    let mut news = [0u16; MAX_STATES];
+    let mut in_head = [0u16; MAX_STATES];
+    let mut out_head = [0u16; MAX_STATES];
+    let mut queue = [0u16; MAX_STATES];
+    let mut visited = [0u16; MAX_STATES];
+    let mut in_next = [0u16; RECORD_LIMIT];
+    let mut out_next = [0u16; RECORD_LIMIT];
+    let mut input = [0u8; INPUT];
     let mut output = [0u8; PICTURE_ROOM];
-    draw_record(
+    draw_input(
         &mut input,
         &mut output,
         &mut status,
@@ -48,65 +57,8 @@ fn main() {
     );
 }
 
-// Opens the tables, and draws.
-fn draw_record(
-    input: &mut [u8],
-    output: &mut [u8],
-    status: &mut [u8],
-    marks: &mut [u8],
-    from: &mut [u16],
-    to: &mut [u16],
-    successor: &mut [u16],
-    news: &mut [u16],
-    in_head: &mut [u16],
-    out_head: &mut [u16],
-    queue: &mut [u16],
-    visited: &mut [u16],
-    in_next: &mut [u16],
-    out_next: &mut [u16],
-)
-    requires { ⌜ pictureRoom ≤ length (now output) ⌝ }
-{
-    let opened = reader::open(
-        LIMIT,
-        status,
-        marks,
-        from,
-        to,
-        successor,
-        news,
-        in_head,
-        out_head,
-        queue,
-        visited,
-        in_next,
-        out_next,
-    );
-    let Opened::Ready(engine) = opened else {
-        return;
-    };
-    draw_input(
-        engine,
-        input,
-        output,
-        status,
-        marks,
-        from,
-        to,
-        successor,
-        news,
-        in_head,
-        out_head,
-        queue,
-        visited,
-        in_next,
-        out_next,
-    );
-}
-
-// Nothing says that an input ends, so the pieces are counted down, from a number that no run uses up.
+// Nothing says that an input ends, so the turns are counted down, from a number that no run uses up.
 fn draw_input(
-    engine: Engine,
     input: &mut [u8],
     output: &mut [u8],
     status: &mut [u8],
@@ -121,23 +73,40 @@ fn draw_input(
     visited: &mut [u16],
     in_next: &mut [u16],
     out_next: &mut [u16],
-)
-    requires { ⌜ (pictureRoom ≤ length (now output)) × Stands (engine .graph) (tablesOf (now status) (now marks) (now from) (now to) (now successor) (now news) (now «in_head») (now «out_head») (now queue) (now visited) (now «in_next») (now «out_next»)) ⌝ }
+) -> DrawingEnd
+    requires { ⌜ (pictureRoom ≤ length (now output)) × (openRefusal recordLimit ((tablesOf (now status) (now marks) (now from) (now to) (now successor) (now news) (now «in_head») (now «out_head») (now queue) (now visited) (now «in_next») (now «out_next»))) ≡ none) ⌝ }
+    ensures { λ r. ⌜ EndsDrawing r (now (output .exit)) ((tablesOf (now (status .exit)) (now (marks .exit)) (now (from .exit)) (now (to .exit)) (now (successor .exit)) (now (news .exit)) (now («in_head» .exit)) (now («out_head» .exit)) (now (queue .exit)) (now (visited .exit)) (now («in_next» .exit)) (now («out_next» .exit)))) ⌝ }
 {
-    let mut reader = Reader {
-        splitter: Splitter::start(),
-        engine,
-    };
-    let mut pieces = u64::MAX;
-    while pieces > 0 {
-        let got = libc::read(STDIN_FILENO, input);
-        if got <= 0 {
-            break;
-        }
-        let n = io::count(got, input);
-        let after = picture::read_part(
-            reader,
-            &input[..n],
+    let mut drawer = picture::begin(
+        status,
+        marks,
+        from,
+        to,
+        successor,
+        news,
+        in_head,
+        out_head,
+        queue,
+        visited,
+        in_next,
+        out_next,
+    );
+    let mut count = 0;
+    let mut turns = u64::MAX;
+    while turns > 0 {
+        let task = drawer.task;
+        let end = drawer.end;
+        let served = streams::serve(b"draw", task, end, count, input, output);
+        let Served::Piece(len) = served else {
+            return DrawingEnd {
+                drawer,
+                over: served.is_over(),
+            };
+        };
+        let next = picture::draw(
+            drawer,
+            &input[..len],
+            output,
             status,
             marks,
             from,
@@ -151,25 +120,12 @@ fn draw_input(
             in_next,
             out_next,
         );
-        reader = after;
-        pieces -= 1;
+        drawer = next;
+        count = len;
+        turns -= 1;
     }
-    let end = picture::draw_end(
-        reader,
-        output,
-        0,
-        status,
-        marks,
-        from,
-        to,
-        successor,
-        news,
-        in_head,
-        out_head,
-        queue,
-        visited,
-        in_next,
-        out_next,
-    );
-    io::write_all(STDOUT_FILENO, &output[..end]);
+    DrawingEnd {
+        drawer,
+        over: false,
+    }
 }

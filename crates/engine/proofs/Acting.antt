@@ -13,7 +13,7 @@ use Rattle.adjacency.specs.Walks.{Linked}
 use Rattle.search.specs.Spreading.{Arcs, arcs, Walkable}
 use Rattle.search.specs.Escaping.{Escape, Near}
 use Rattle.engine.specs.Effects.{markAt, nameAt, marksAfter}
-use Rattle.engine.specs.Written.{namesAfter}
+use Rattle.engine.specs.Searches.{namesAfter}
 use Rattle.engine.specs.Done.{Room}
 
 -- the marks of both ends of a step
@@ -35,7 +35,7 @@ escape-found out status successor u {r} (inr w) h = let q : r - 1 ≡ w .0 = ome
 
 -- The lent tables are long enough for a walk over the steps into a state, and out of it.
 pub walk-into : {n limit m : ℕ} {t : Tables} → Room n limit m t → Walkable (arcs n m (t .from) (t .inHead) (t .inNext))
-walk-into r = record { few = omega arith; heads = r .inHead; nexts = omega arith; ends′ = omega arith }
+walk-into r = record { few = omega arith; heads = r .long .inHead; nexts = omega arith; ends′ = omega arith }
 
 pub walk-out : {n limit m : ℕ} {t : Tables} → Room n limit m t → Walkable (arcs n m (t .to) (t .outHead) (t .outNext))
-walk-out r = record { few = omega arith; heads = r .outHead; nexts = omega arith; ends′ = omega arith }
+walk-out r = record { few = omega arith; heads = r .long .outHead; nexts = omega arith; ends′ = omega arith }

@@ -8,7 +8,7 @@ use Rattle.tables.specs.declared.Graph.{Graph}
 use Rattle.tables.specs.Tables.{Tables}
 use Rattle.tables.specs.Fitting.{Consistent}
 use Rattle.engine.specs.Effects.{nameAt}
-use Rattle.engine.specs.Written.{Written, Closes, lives, nears, sweeps}
+use Rattle.engine.specs.Searches.{SearchTables, Closes, lives, nears, sweeps}
 use Rattle.engine.specs.Outcomes.{Right}
 use Rattle.engine.proofs.ClosingNear.{was-live, was-unlive, right-lives, right-nears}
 use Rattle.engine.proofs.ClosingSweep.{right-sweeps}
@@ -16,7 +16,7 @@ use Rattle.engine.proofs.ClosingSweep.{right-sweeps}
 pub closing :
     {h : History} {g : Graph} {t : Tables} → Consistent h g t → (u : ℕ) → u < g .n → (IsClosed h u → ⊥) →
     g .n ≤ length (t .status) → g .n ≤ length (t .successor) → g .steps < 65535 →
-    {a : Written} {k : ℕ} →
+    {a : SearchTables} {k : ℕ} →
     Closes (g .n) (g .steps) u (t .from) (t .to) (t .inHead) (t .outHead) (t .inNext) (t .outNext)
     (record { status = nameAt u (t .status); successor = t .successor; news = t .news; visited = t .visited; queue = t .queue }) a k →
     Right h (Close u) (g .n) (g .steps) (t .from) (t .to) a k

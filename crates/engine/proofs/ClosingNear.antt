@@ -1,7 +1,7 @@
 -- The close of a state that is live, or that has a near escape: nothing becomes dead.
 -- Assumes nothing.
 use mathlib.Core.Path.{_≡_, refl, sym, _∙_, ap}
-use mathlib.Core.Bool.{Bool, true, false, cond, false≢true}
+use mathlib.Core.Bool.{true, false, cond, false≢true}
 use mathlib.Core.List.{List, _∷_}
 use Prim.Native.Nat.{ℕ, suc, _<_, _≤_}
 use native.Mathlib.Omega.{arith}
@@ -13,7 +13,7 @@ use borrow.Author.Tests.{eq-eqb, ne-eqb}
 use Rattle.gid.specs.declared.Update.the-variants.{Close}
 use Rattle.gid.specs.Histories.{History, IsStep, IsClosed}
 use Rattle.gid.specs.Verdicts.{Live, DeadByReach}
-use Rattle.gid.specs.Statuses.{isNamed, isClosed, isLive, status, statusUnseen, statusOpen, statusUnknown, statusLive}
+use Rattle.gid.specs.Statuses.{isNamed, isClosed, isLive, status, statusOpen, statusUnknown, statusLive}
 use Rattle.gid.specs.News.{news}
 use Rattle.gid.specs.Successors.{Chain, ends, follows, Having, SuccessorRule, noSuccessor}
 use Rattle.gid.proofs.Decide.{refutes}
@@ -32,21 +32,14 @@ use Rattle.adjacency.proofs.Walks.{linked}
 use Rattle.search.specs.Spreading.{arcs}
 use Rattle.search.specs.Escaping.{Near}
 use Rattle.engine.specs.Effects.{nameAt, namedByte}
-use Rattle.engine.specs.Written.{Written, unknownAt, followedBy}
+use Rattle.engine.specs.Searches.{SearchTables, unknownAt, followedBy}
 use Rattle.engine.specs.Outcomes.{Right}
+use Rattle.engine.proofs.Naming.{named-live}
 use Rattle.engine.proofs.ClosingFacts.{chain-reaches, rechain, same-dead, status-closed, no-news, named-is, unknown-is, unknown-here, unknown-else, not-dead, was-known, no-successor, open-else}
 
 -- The tables that a search writes, with u named.
-abbrev pub namedTables : ℕ → Tables → Written
+abbrev pub namedTables : ℕ → Tables → SearchTables
 namedTables u t = record { status = nameAt u (t .status); successor = t .successor; news = t .news; visited = t .visited; queue = t .queue }
-
--- a byte that is live once named was live
-named-live : (b : ℕ) → namedByte b ≡ statusLive → b ≡ statusLive
-named-live b = at (eqb b statusUnseen)
-  where
-    at : (e : Bool) → cond e statusOpen b ≡ statusLive → b ≡ statusLive
-    at true q = absurd (omega arith)
-    at false q = q
 
 -- The rule turns on the statuses of the states alone.
 pub same-rule :
@@ -67,7 +60,7 @@ same-rule n m st st′ from to su e r =
 
 module _ {h : History} {g : Graph} {t : Tables} (c : Consistent h g t) (u : ℕ) (range : u < g .n) (unclosed : IsClosed h u → ⊥) (long : g .n ≤ length (t .status)) where
   pub was-live : getD (nameAt u (t .status)) u 0 ≡ statusLive → Live h u
-  was-live e = status-live h u .0 (named-live (status h u) (at (eq-eqb u u refl)))
+  was-live e = status-live h u .0 (named-live true (status h u) .0 (at (eq-eqb u u refl)))
     where
       at : eqb u u ≡ true → namedByte (status h u) ≡ statusLive
       at q = (rw q at (sym (named-is c u range unclosed long u range))) ∙ e

@@ -3,13 +3,12 @@
 use mathlib.Core.Path.{_≡_, refl, sym, _∙_, ap}
 use mathlib.Core.Logic.{_⊎_, inl, inr, ⊎-elim}
 use mathlib.Core.Bool.{Bool, true, false, not, cond, _&&_, _||_, true≢false, false≢true}
-use mathlib.Core.List.{List, _∷_, List·Memᴰ·tail}
+use mathlib.Core.List.{_∷_, List·Memᴰ·tail}
 use Prim.Native.Nat.{ℕ, zero, suc, _<_, _≤_}
 use native.Mathlib.Omega.{arith}
 use native.Mathlib.Decide.{ℕ-discrete}
 use lib.Dec.{eqb, ltb}
-use lib.ListN.{length, getD, set, length-set}
-use lib.Seq.{getD-set-same, getD-set-other}
+use lib.ListN.{length, getD, set}
 use borrow.Author.Tests.{eqb-true, eq-eqb, ltb-true, lt-ltb}
 use Rattle.gid.specs.declared.Update.the-variants.{Step, Close}
 use Rattle.gid.specs.Histories.{History, IsStep, IsTerminal, IsClosed}
@@ -32,58 +31,15 @@ use Rattle.adjacency.specs.Walks.{Linked}
 use Rattle.adjacency.proofs.Walks.{linked}
 use Rattle.search.specs.declared.spread.Mode.the-variants.{Tree}
 use Rattle.search.specs.Spreading.{Arcs, arcs, fresh, Reached, start, back}
-use Rattle.search.specs.Releasing.{hopeful, Way, beyond, onto, towards, Released, Rescues}
+use Rattle.search.specs.Releasing.{hopeful, Way, beyond, onto, towards, Released}
 use Rattle.engine.specs.Effects.{nameAt}
-use Rattle.engine.specs.Written.{Written, Sweep, unknownAt}
+use Rattle.engine.specs.Searches.{SearchTables, Sweep, unknownAt}
 use Rattle.engine.specs.Outcomes.{Right}
 use Rattle.engine.proofs.Settlement.{status-is, successor-is, none-left, news-are}
 use Rattle.engine.proofs.ClosingFacts.{fails, chain-reaches, rechain, terminal-was, step-was, status-closed, settles-closed, step-range, listed-range, unknown-is, unknown-here, unknown-else, not-dead, was-known, open-else, unknown-now, now-unknown}
 use Rattle.engine.proofs.ClosingNear.{namedTables, Chained}
 
--- A state that was released is never marked again: what a rescue leaves marked was marked before it.
--- (A release says nothing of the old successor of a released state, and leaves that of a marked one: so no released state can be marked.)
-pub rescue-shrinks :
-    {out into : Arcs} {status visited successor visited₁ successor₁ queue₁ visited₂ successor₂ queue₂ : List ℕ} {len k : ℕ} →
-    out .n ≡ into .n → Released out into status visited successor visited₁ successor₁ queue₁ len →
-    Rescues into visited₁ successor₁ queue₁ visited₂ successor₂ queue₂ len k →
-    (s : ℕ) → s < out .n → s < length successor → marked visited₂ s ≡ true → marked visited₁ s ≡ true
-rescue-shrinks {out} {into} {status} {visited} {successor} {visited₁} {successor₁} {queue₁} {visited₂} {successor₂} {queue₂} {len} {k} same r q s b l e = at (marked visited₁ s) refl
-  where
-    -- the same release, from another successor of s
-    other : List ℕ
-    other = set successor s (suc (getD successor₂ s 0))
-
-    same-else : (i : ℕ) → (i ≡ s → ⊥) → getD other i 0 ≡ getD successor i 0
-    same-else i d = getD-set-other successor s i (suc (getD successor₂ s 0)) 0 d
-
-    here-is : getD other s 0 ≡ suc (getD successor₂ s 0)
-    here-is = getD-set-same successor s (suc (getD successor₂ s 0)) 0 l
-
-    at : (m : Bool) → marked visited₁ s ≡ m → m ≡ true
-    at true z = refl
-    at false z = absurd (omega (arith, q .released out status visited other same rest .others s (inr e), here-is))
-      where
-        visits-s : marked visited s ≡ true
-        visits-s = q .released out status visited successor same r .shrinks s e
-
-        unreleased : (i : ℕ) → (marked visited i ≡ false) ⊎ (marked visited₁ i ≡ true) → i ≡ s → ⊥
-        unreleased i (inl m) y = true≢false (sym visits-s ∙ (rw y at m))
-        unreleased i (inr m) y = false≢true (sym z ∙ (rw y at m))
-
-        rest : Released out into status visited other visited₁ successor₁ queue₁ len
-        rest =
-            record {
-              shrinks = r .shrinks;
-              front = r .front;
-              listed = r .listed;
-              ways = r .ways;
-              others = λ i o. r .others i o ∙ sym (same-else i (unreleased i o));
-              room = r .room;
-              visits = r .visits;
-              successors = record { size = r .successors .size ∙ simp length-set; past = λ i a. r .successors .past i a ∙ sym (same-else i (λ z. absurd (omega arith))) };
-            }
-
-module _ {h : History} {g : Graph} {t : Tables} (c : Consistent h g t) (u : ℕ) (range : u < g .n) (unclosed : IsClosed h u → ⊥) (long : g .n ≤ length (t .status)) (longer : g .n ≤ length (t .successor)) (unlive : Live h u → ⊥) {a : Written} {k : ℕ} (w : Sweep (g .n) (g .steps) u (t .from) (t .to) (t .inHead) (t .outHead) (t .inNext) (t .outNext) (unknownAt u (namedTables u t)) a k) where
+module _ {h : History} {g : Graph} {t : Tables} (c : Consistent h g t) (u : ℕ) (range : u < g .n) (unclosed : IsClosed h u → ⊥) (long : g .n ≤ length (t .status)) (longer : g .n ≤ length (t .successor)) (unlive : Live h u → ⊥) {a : SearchTables} {k : ℕ} (w : Sweep (g .n) (g .steps) u (t .from) (t .to) (t .inHead) (t .outHead) (t .inNext) (t .outNext) (unknownAt u (namedTables u t)) a k) where
   -- the steps into and out of states
   abbrev Into : Arcs
   Into = arcs (g .n) (g .steps) (t .from) (t .inHead) (t .inNext)
@@ -144,6 +100,10 @@ module _ {h : History} {g : Graph} {t : Tables} (c : Consistent h g t) (u : ℕ)
   released : Released Out Into (set (nameAt u (t .status)) u statusUnknown) (w .visits) (t .successor) (w .visits₂) (w .successor₂) (a .queue) (w .rescued)
   released = w .rescues .released Out (set (nameAt u (t .status)) u statusUnknown) (w .visits) (t .successor) refl (w .escapes .released Into)
 
+  holds : (b : Bool) → (b ≡ false → ⊥) → b ≡ true
+  holds true n = refl
+  holds false n = absurd (n refl)
+
   dies-unknown : (s : ℕ) → s < g .n → dies s ≡ true → stands s ≡ statusUnknown
   dies-unknown s b e = visits-unknown s b (released .shrinks s e)
 
@@ -166,7 +126,7 @@ module _ {h : History} {g : Graph} {t : Tables} (c : Consistent h g t) (u : ℕ)
         at true e = refl
         at false e =
             let j = w .spread .queued s (decides-visited s inside .sound (released .shrinks s stays)) in
-            let m : marked (w .visits₁) s ≡ true = rescue-shrinks {out = Out} refl (w .escapes .released Into) (w .rescues) s inside (omega arith) stays in
+            let m : marked (w .visits₁) s ≡ true = holds (marked (w .visits₁) s) (λ q. true≢false (sym stays ∙ w .rescues .shrinks s q)) in
             let l : Linked (t .outHead) (t .outNext) (g .steps) s p = linked (c .outOf) s inside p .1 (listed, from) in
             let n = w .escapes .noEscape (j .0) (j .1) (rw (j .2) m) p (rw (j .2) l) in
             absurd (false≢true (sym n ∙ rw (to, target-hopeful, e)))

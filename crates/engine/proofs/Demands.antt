@@ -1,12 +1,12 @@
 -- The three demands, of every engine that keeps the promise (specs/Promise.antt); `Engine::update` is proved to keep it. A run is a chain of such calls from fresh tables, with table checks in between (specs/Runs.antt).
 -- Assumes nothing.
-use mathlib.Core.Path.{_≡_, refl, sym, _∙_, ap}
+use mathlib.Core.Path.{_≡_, sym, _∙_}
 use mathlib.Core.Logic.{_⊎_, inl, inr, ⊎-elim}
 use mathlib.Core.Bool.{true}
-use mathlib.Core.List.{List, _∷_, List·Memᴰ}
+use mathlib.Core.List.{List, [], _∷_, List·Memᴰ}
 use mathlib.Core.Option.{some, none}
 use Prim.Native.Nat.{ℕ, _<_, _≤_}
-use lib.ListN.{getD, take}
+use lib.ListN.{getD}
 use Rattle.gid.specs.declared.Update.{Update}
 use Rattle.gid.specs.Updates.{source}
 use Rattle.gid.specs.Histories.{History, Legal, Continues, IsClosed}
@@ -20,12 +20,12 @@ use Rattle.gid.proofs.News.{news-exact}
 use Rattle.tables.specs.declared.Graph.{Graph}
 use Rattle.tables.specs.Tables.{Tables, enough, needs, lengths}
 use Rattle.tables.specs.Refused.{refusalOn}
-use Rattle.tables.specs.Fitting.{Consistent, Fresh}
+use Rattle.tables.specs.Fitting.{Checked, Consistent, Fresh}
 use Rattle.engine.specs.declared.Answer.{Answer}
-use Rattle.engine.specs.declared.Answer.the-variants.{Accepted, Refused}
-use Rattle.engine.specs.Done.{Sendable}
-use Rattle.engine.specs.Promise.{AcceptedUpdate, Promise}
-use Rattle.engine.specs.Runs.{Checked, Run, Agree}
+use Rattle.engine.specs.declared.Answer.the-variants.{Accepted}
+use Rattle.engine.specs.Answers.{answerNumber, newsOf}
+use Rattle.engine.specs.Promise.{AcceptedUpdate, Promise, Sendable}
+use Rattle.engine.specs.Runs.{Run, Agree}
 use Rattle.engine.proofs.Running.{was-accepted, Sound, sound, sound-checked, not-refused, unclosed, same-states}
 use Rattle.engine.proofs.Twins.{agree}
 
@@ -35,12 +35,12 @@ pub demand-1 :
     Fresh g₀ t₀ → Run g₀ t₀ xs h g t → Checked g t t₁ →
     0 < g .n → g .n ≤ maxStates → 0 < g .limit → g .limit ≤ maxSteps → enough (needs (g .n) (g .limit) (lengths t₁)) ≡ true →
     (x : Update) → Sendable (g .n) (g .limit) (g .steps) x → (IsClosed h (source x) → ⊥) →
-    Promise g x t₁ g′ a t′ → (k : ℕ) × (a ≡ Accepted k)) ×
+    Promise g x t₁ g′ a t′ → answerNumber a ≡ none) ×
     ((g g′ : Graph) (t t′ : Tables) (a : Answer) (x : Update) →
-    Promise g x t g′ a t′ → (k : ℕ) → refusalOn g t x ≡ some k → (a ≡ Refused k) × (g′ ≡ g) × (t′ ≡ t))
+    Promise g x t g′ a t′ → (k : ℕ) → refusalOn g t x ≡ some k → (answerNumber a ≡ some k) × (newsOf a (t′ .news) ≡ []) × (g′ ≡ g) × (t′ ≡ t))
 demand-1 = (
-  λ g₀ g g′ t₀ t t₁ t′ xs h a f r c p q u v l x s o m. let w = m .accepts (not-refused (sound-checked (sound f r) c) p q u v l x s o) in (w .0, w .1),
-  λ g g′ t t′ a x m k e. m .refuses k e,
+  λ g₀ g g′ t₀ t t₁ t′ xs h a f r c p q u v l x s o m. m .number ∙ not-refused (sound-checked (sound f r) c) p q u v l x s o,
+  λ g g′ t t′ a x m k e. let w = m .refuses k e in (m .number ∙ e, w .0, w .1, w .2),
 )
 
 -- Demand 2. "In a run from fresh tables, after each accepted update every status equals the definition in document 000, worked out afresh on the whole history. The news list names, in rising order, exactly the states that this update made live or dead, and each of those verdicts stays under every legal continuation."
@@ -49,8 +49,8 @@ pub demand-2 :
     Fresh g₀ t₀ → Run g₀ t₀ xs h g t → Checked g t t₁ → Promise g x t₁ g′ (Accepted k) t′ →
     Legal (x ∷ h) ×
     ((s : ℕ) → s < g .n → getD (t′ .status) s 0 ≡ status (x ∷ h) s) ×
-    (take k (t′ .news) ≡ news (g .n) h x) ×
-    ((s : ℕ) → List·Memᴰ s (take k (t′ .news)) → (getD (t′ .status) s 0 ≡ statusLive) ⊎ (getD (t′ .status) s 0 ≡ statusDead)) ×
+    (newsOf (Accepted k) (t′ .news) ≡ news (g .n) h x) ×
+    ((s : ℕ) → List·Memᴰ s (newsOf (Accepted k) (t′ .news)) → (getD (t′ .status) s 0 ≡ statusLive) ⊎ (getD (t′ .status) s 0 ≡ statusDead)) ×
     ((s : ℕ) → s < g .n → (getD (t′ .status) s 0 ≡ statusLive) ⊎ (getD (t′ .status) s 0 ≡ statusDead) → (f : History) → Continues (x ∷ h) f → Legal f → status f s ≡ getD (t′ .status) s 0)
 demand-2 {g₀ = g₀} {g = g} {g′ = g′} {t₀ = t₀} {t₁ = t₁} {t′ = t′} {h = h} {x = x} {k = k} f r c p =
     (legal, statuses, fits .1, settled, stays)
@@ -58,10 +58,10 @@ demand-2 {g₀ = g₀} {g = g} {g′ = g′} {t₀ = t₀} {t₁ = t₁} {t′ =
     s₁ : Sound g₀ t₀ h g t₁
     s₁ = sound-checked (sound f r) c
 
-    a : (refusalOn g t₁ x ≡ none) × AcceptedUpdate g x t₁ g′ t′ k
+    a : (refusalOn g t₁ x ≡ none) × AcceptedUpdate g x t₁ g′ t′ (Accepted k)
     a = was-accepted p
 
-    fits : Consistent (x ∷ h) g′ t′ × (take k (t′ .news) ≡ news (g .n) h x)
+    fits : Consistent (x ∷ h) g′ t′ × (newsOf (Accepted k) (t′ .news) ≡ news (g .n) h x)
     fits = a .1 .fits h (s₁ .legal) (s₁ .fits)
 
     legal : Legal (x ∷ h)
@@ -70,7 +70,7 @@ demand-2 {g₀ = g₀} {g = g} {g′ = g′} {t₀ = t₀} {t₁ = t₁} {t′ =
     statuses : (s : ℕ) → s < g .n → getD (t′ .status) s 0 ≡ status (x ∷ h) s
     statuses s q = fits .0 .status s (rw (a .1 .graph, same-states g x) q)
 
-    settled : (s : ℕ) → List·Memᴰ s (take k (t′ .news)) → (getD (t′ .status) s 0 ≡ statusLive) ⊎ (getD (t′ .status) s 0 ≡ statusDead)
+    settled : (s : ℕ) → List·Memᴰ s (newsOf (Accepted k) (t′ .news)) → (getD (t′ .status) s 0 ≡ statusLive) ⊎ (getD (t′ .status) s 0 ≡ statusDead)
     settled s m =
         let e = news-exact (g .n) h x s .0 (rw (fits .1) at m) in
         ⊎-elim (λ l. inl (statuses s (e .0) ∙ status-live (x ∷ h) s .1 (l .0))) (λ d. inr (statuses s (e .0) ∙ status-dead-by-reach (x ∷ h) s .1 (d .0))) (e .1)

@@ -1,24 +1,20 @@
 -- The step list and the range after an update: they are those of the history with it.
 -- Assumes nothing.
-use mathlib.Core.Path.{_≡_, refl, sym, _∙_, ap, subst}
-use mathlib.Core.Logic.{_⊎_, inl, inr, ⊎-elim}
-use mathlib.Core.Bool.{Bool, true, false, cond}
-use mathlib.Core.List.{List, [], _∷_, _++_, List·Memᴰ·cases-cons}
-use Prim.Native.Nat.{ℕ, suc, _+_, _<_, _≤_}
+use mathlib.Core.Path.{_≡_, subst}
+use mathlib.Core.Logic.{inl, inr, ⊎-elim}
+use mathlib.Core.List.{List, _∷_, List·Memᴰ·cases-cons}
+use Prim.Native.Nat.{ℕ, _+_, _<_, _≤_}
 use native.Mathlib.Omega.{arith}
 use native.Mathlib.Numerals.{add-one}
-use lib.ListN.{length, getD, set, take, length-append, length-set}
+use lib.ListN.{length, set, take, length-append}
 use lib.Seq.{take-suc-set, getD-set-same, getD-set-other}
 use Rattle.gid.specs.declared.Update.{Update}
 use Rattle.gid.specs.declared.Update.the-variants.{Step, Terminal, Close}
 use Rattle.gid.specs.Updates.{Mentions}
-use Rattle.gid.specs.Histories.{History, Has, IsNamed}
-use Rattle.gid.specs.Statuses.{isNamed, isTerminal, isClosed}
+use Rattle.gid.specs.Histories.{History, IsNamed}
 use Rattle.tables.specs.declared.Graph.{Graph}
-use Rattle.tables.specs.Tables.{Tables}
-use Rattle.tables.specs.Marks.{hasClosed}
 use Rattle.tables.specs.Work.{ListRule}
-use Rattle.tables.specs.Fitting.{sources, targets, marksOf, Consistent}
+use Rattle.tables.specs.Fitting.{sources, targets}
 use Rattle.adjacency.specs.Walks.{Pushed}
 use Rattle.adjacency.proofs.Walks.{push-keeps}
 use Rattle.tables.specs.Listing.{fromAfter, toAfter, graphAfter}
@@ -62,18 +58,3 @@ to-after h g (Close u) to f e = e
 pub rule-after : {n m : ℕ} {ends head next head′ next′ : List ℕ} (v : ℕ) → ListRule n m ends head next → Pushed head next v m head′ next′ → n ≤ length head → m < length next → m < length ends → v < n → ListRule n (m + 1) (set ends m v) head′ next′
 rule-after {m = m} {ends = ends} v r p a b c d =
     push-keeps (set ends m v) r p a b d (λ i k. getD-set-other ends m i v 0 (λ e. absurd (omega arith))) (getD-set-same ends m v 0 c)
-
--- the closed mark of tables that fit is the history's
-pub closed-bit : (h : History) (s : ℕ) → hasClosed (marksOf h s) ≡ isClosed h s
-unfolding marksOf
-closed-bit h s = at (isNamed h s) (isTerminal h s) (isClosed h s)
-  where
-    at : (a b c : Bool) → hasClosed (cond a 1 0 + cond b 2 0 + cond c 4 0) ≡ c
-    at true true true = refl
-    at true true false = refl
-    at true false true = refl
-    at true false false = refl
-    at false true true = refl
-    at false true false = refl
-    at false false true = refl
-    at false false false = refl

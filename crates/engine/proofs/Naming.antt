@@ -1,9 +1,10 @@
--- The marks after an update are those of the history with it, and a named state is no longer unseen.
+-- The marks after an update are those of the history with it, and naming a state makes none live.
 -- Assumes nothing.
 use mathlib.Core.Path.{_≡_, refl, sym, _∙_, ap}
-use mathlib.Core.Bool.{Bool, true, false, cond, _&&_, _||_}
-use mathlib.Core.List.{List, [], _∷_}
-use Prim.Native.Nat.{ℕ, _+_, _<_, _≤_}
+use mathlib.Core.Logic.{_↔_}
+use mathlib.Core.Bool.{Bool, true, false, cond, _&&_, _||_, and-true, and-false}
+use mathlib.Core.List.{List, _∷_}
+use Prim.Native.Nat.{ℕ, _<_, _≤_}
 use native.Mathlib.Omega.{arith}
 use native.Mathlib.Decide.{ℕ-discrete}
 use lib.Dec.{eqb}
@@ -12,12 +13,12 @@ use lib.Seq.{getD-set-same, getD-set-other}
 use borrow.Author.Tests.{eq-eqb, ne-eqb}
 use Rattle.gid.specs.declared.Update.{Update}
 use Rattle.gid.specs.declared.Update.the-variants.{Step, Terminal, Close}
-use Rattle.gid.specs.Updates.{source}
 use Rattle.gid.specs.Histories.{History}
-use Rattle.gid.specs.Statuses.{isNamed, isTerminal, isClosed}
+use Rattle.gid.specs.Statuses.{isNamed, isTerminal, isClosed, statusUnseen, statusOpen, statusLive}
 use Rattle.tables.specs.Marks.{withNamed, withTerminal, withClosed}
 use Rattle.tables.specs.Fitting.{marksOf}
-use Rattle.engine.specs.Effects.{markAt, marksAfter, namedByte, nameAt}
+use Rattle.tables.proofs.Bits.{bits, byte}
+use Rattle.engine.specs.Effects.{markAt, marksAfter, namedByte}
 
 -- an entry after a store at u
 pub set-at : (l : List ℕ) (u v : ℕ) → u < length l → (s : ℕ) → getD (set l u v) s 0 ≡ cond (eqb u s) v (getD l s 0)
@@ -27,67 +28,32 @@ set-at l u v h s = at (ℕ-discrete s u)
     at (yes e) = rw (e, eq-eqb u u refl, getD-set-same l u v 0 h)
     at (no d) = rw (ne-eqb u s (λ e. d (sym e)), getD-set-other l u s v 0 d)
 
--- a byte of marks
-bits : Bool → Bool → Bool → ℕ
-bits a b c = cond a 1 0 + cond b 2 0 + cond c 4 0
-
-set-named : (a b c : Bool) → withNamed (bits a b c) ≡ bits true b c
-unfolding bits withNamed
-set-named true true true = refl
-set-named true true false = refl
-set-named true false true = refl
-set-named true false false = refl
-set-named false true true = refl
-set-named false true false = refl
-set-named false false true = refl
-set-named false false false = refl
-
-set-terminal : (a b c : Bool) → withTerminal (bits a b c) ≡ bits a true c
-unfolding bits withTerminal
-set-terminal true true true = refl
-set-terminal true true false = refl
-set-terminal true false true = refl
-set-terminal true false false = refl
-set-terminal false true true = refl
-set-terminal false true false = refl
-set-terminal false false true = refl
-set-terminal false false false = refl
-
-set-closed : (a b c : Bool) → withClosed (bits a b c) ≡ bits a b true
-unfolding bits withClosed
-set-closed true true true = refl
-set-closed true true false = refl
-set-closed true false true = refl
-set-closed true false false = refl
-set-closed false true true = refl
-set-closed false true false = refl
-set-closed false false true = refl
-set-closed false false false = refl
+-- a live state stays so when it is named, and no other becomes so
+pub named-live : (m : Bool) (k : ℕ) → (cond m (namedByte k) k ≡ statusLive) ↔ (k ≡ statusLive)
+named-live false k = (λ e. e, λ e. e)
+named-live true k = (λ e. at (eqb k statusUnseen) e, λ e. rw e)
+  where
+    at : (c : Bool) → cond c statusOpen k ≡ statusLive → k ≡ statusLive
+    at true q = absurd (omega arith)
+    at false q = q
 
 module _ (marks : List ℕ) (n u : ℕ) (long : n ≤ length marks) (range : u < n) (N T C : ℕ → Bool) (given : (s : ℕ) → s < n → getD marks s 0 ≡ bits (N s) (T s) (C s)) where
-  marked-at : (f : ℕ → ℕ) (s : ℕ) → s < n → getD (markAt f u marks) s 0 ≡ cond (eqb u s) (f (bits (N u) (T u) (C u))) (bits (N s) (T s) (C s))
-  marked-at f s h = rw (set-at marks u (f (getD marks u 0)) (omega arith) s, given u range, given s h)
+  -- a mark set at u: one of the three, by which of a, b and c is true
+  mark-set : (f : ℕ → ℕ) (a b c : Bool) → ((x y z : Bool) → f (bits x y z) ≡ bits (a || x) (b || y) (c || z)) → (s : ℕ) → s < n → getD (markAt f u marks) s 0 ≡ bits (a && eqb u s || N s) (b && eqb u s || T s) (c && eqb u s || C s)
+  mark-set f a b c e s h = rw (set-at marks u (f (getD marks u 0)) (omega arith) s, given u range, given s h) (at (ℕ-discrete u s))
+    where
+      at : Dec (u ≡ s) → cond (eqb u s) (f (bits (N u) (T u) (C u))) (bits (N s) (T s) (C s)) ≡ bits (a && eqb u s || N s) (b && eqb u s || T s) (c && eqb u s || C s)
+      at (yes q) = rw (q, eq-eqb s s refl, and-true a, and-true b, and-true c) (e (N s) (T s) (C s))
+      at (no d) = rw (ne-eqb u s d, and-false a, and-false b, and-false c)
 
   mark-named : (s : ℕ) → s < n → getD (markAt withNamed u marks) s 0 ≡ bits (eqb u s || N s) (T s) (C s)
-  mark-named s h = marked-at withNamed s h ∙ at (ℕ-discrete u s)
-    where
-      at : Dec (u ≡ s) → cond (eqb u s) (withNamed (bits (N u) (T u) (C u))) (bits (N s) (T s) (C s)) ≡ bits (eqb u s || N s) (T s) (C s)
-      at (yes e) = rw (e, eq-eqb s s refl) (set-named (N s) (T s) (C s))
-      at (no d) = rw (ne-eqb u s d)
+  mark-named = mark-set withNamed true false false (λ a b c. byte a b c .set-named)
 
   mark-terminal : (s : ℕ) → s < n → getD (markAt withTerminal u marks) s 0 ≡ bits (N s) (eqb u s || T s) (C s)
-  mark-terminal s h = marked-at withTerminal s h ∙ at (ℕ-discrete u s)
-    where
-      at : Dec (u ≡ s) → cond (eqb u s) (withTerminal (bits (N u) (T u) (C u))) (bits (N s) (T s) (C s)) ≡ bits (N s) (eqb u s || T s) (C s)
-      at (yes e) = rw (e, eq-eqb s s refl) (set-terminal (N s) (T s) (C s))
-      at (no d) = rw (ne-eqb u s d)
+  mark-terminal = mark-set withTerminal false true false (λ a b c. byte a b c .set-terminal)
 
   mark-closed : (s : ℕ) → s < n → getD (markAt withClosed u marks) s 0 ≡ bits (N s) (T s) (eqb u s || C s)
-  mark-closed s h = marked-at withClosed s h ∙ at (ℕ-discrete u s)
-    where
-      at : Dec (u ≡ s) → cond (eqb u s) (withClosed (bits (N u) (T u) (C u))) (bits (N s) (T s) (C s)) ≡ bits (N s) (T s) (eqb u s || C s)
-      at (yes e) = rw (e, eq-eqb s s refl) (set-closed (N s) (T s) (C s))
-      at (no d) = rw (ne-eqb u s d)
+  mark-closed = mark-set withClosed false false true (λ a b c. byte a b c .set-closed)
 
 either-first : (a b c : Bool) → b || (a || c) ≡ a || b || c
 either-first true true c = refl

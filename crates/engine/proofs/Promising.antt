@@ -1,71 +1,42 @@
 -- The engine's promise, from what the tests answer and from what an accepted update does.
 -- Assumes nothing.
 use mathlib.Core.Path.{_≡_, refl, sym, _∙_, ap}
-use mathlib.Core.Bool.{Bool, true, false, cond, _&&_, _||_, true≢false, false≢true}
-use mathlib.Core.List.{List, [], _∷_}
-use mathlib.Core.Option.{Option, some, none}
-use Prim.Native.Nat.{ℕ, _+_, _<_, _≤_}
+use mathlib.Core.Bool.{true, false}
+use mathlib.Core.List.{List}
+use mathlib.Core.Option.{some}
+use Prim.Native.Nat.{ℕ, _<_, _≤_}
 use native.Mathlib.Omega.{arith}
-use lib.Dec.{leb, ltb, eqb}
-use lib.ListN.{length, getD, take}
-use borrow.Author.Tests.{leb-true, leb-false, eqb-false}
+use lib.Dec.{leb}
+use lib.ListN.{getD}
+use borrow.Author.Tests.{leb-false, eqb-false}
 use Rattle.gid.specs.declared.Update.{Update}
 use Rattle.gid.specs.declared.Update.the-variants.{Step, Terminal, Close}
 use Rattle.gid.specs.Updates.{source}
 use Rattle.gid.specs.Histories.{History, IsClosed}
-use Rattle.gid.specs.Statuses.{isClosed, statusDead}
-use Rattle.gid.specs.Refusals.{first, sent}
+use Rattle.gid.specs.Refusals.{sent}
 use Rattle.gid.proofs.Decide.{refuted}
 use Rattle.gid.proofs.Tests.{decides-closed}
 use Rattle.tables.specs.declared.Graph.{Graph}
-use Rattle.tables.specs.Tables.{Tables, Needed, enough, needs, lengths}
+use Rattle.tables.specs.Tables.{Tables, enough, needs, lengths}
 use Rattle.tables.specs.Marks.{hasClosed}
 use Rattle.tables.specs.Listing.{fromAfter, toAfter, graphAfter}
 use Rattle.tables.specs.Refused.{given, refusalOn, lentNumber, sentNumber}
 use Rattle.tables.specs.Fitting.{Consistent}
-use Rattle.tables.proofs.Refusing.{Passed, passed, neither, lent-leaves, refused-lent, refused-sent, accepted, sent-passes}
+use Rattle.tables.proofs.Bits.{closed-bit}
+use Rattle.tables.proofs.Sizes.{long-enough}
+use Rattle.tables.proofs.Refusing.{passed, neither, lent-leaves, refused-lent, refused-sent, accepted, sent-passes}
 use Rattle.engine.specs.declared.Answer.the-variants.{Accepted, Refused}
 use Rattle.engine.specs.Effects.{marksAfter}
-use Rattle.engine.specs.Done.{Done, stepped, terminated, closed, Room, Sendable}
-use Rattle.engine.specs.Promise.{AcceptedUpdate, Promise}
-use Rattle.engine.proofs.Listing.{closed-bit}
+use Rattle.engine.specs.Done.{Done, stepped, terminated, closed, Room}
+use Rattle.engine.specs.Promise.{Promise, Sendable}
 use Rattle.engine.proofs.Fitting.{done-fits}
 use Rattle.engine.proofs.Keeping.{done-keeps}
-
--- each table is long enough
-abbrev Each : List Needed → Type 0
-Each [] = Unit {0}
-Each (x ∷ l) = (x .need ≤ x .have) × Each l
-
-each-enough : (l : List Needed) → enough l ≡ true → Each l
-each-enough [] e = tt
-each-enough (x ∷ l) e = at (leb (x .need) (x .have)) refl e (each-enough l)
-  where
-    at : (b : Bool) → leb (x .need) (x .have) ≡ b → b && enough l ≡ true → (enough l ≡ true → Each l) → (x .need ≤ x .have) × Each l
-    at true q z i = (leb-true (x .need) (x .have) q, i z)
-    at false q z i = absurd (false≢true z)
 
 pub room-of : (g : Graph) (t : Tables) → lentNumber g (enough (needs (g .n) (g .limit) (lengths t))) ≡ 0 → Room (g .n) (g .limit) (g .steps) t
 room-of g t e =
     let l = lent-leaves g (enough (needs (g .n) (g .limit) (lengths t))) e in
-    let a = each-enough (needs (g .n) (g .limit) (lengths t)) (l .longs) in
-    record {
-      states = l .few-states;
-      bound = l .low-limit;
-      steps = l .room;
-      status = a .0;
-      marks = a .1 .0;
-      from = a .1 .1 .0;
-      to = a .1 .1 .1 .0;
-      successor = a .1 .1 .1 .1 .0;
-      news = a .1 .1 .1 .1 .1 .0;
-      inHead = a .1 .1 .1 .1 .1 .1 .0;
-      outHead = a .1 .1 .1 .1 .1 .1 .1 .0;
-      queue = a .1 .1 .1 .1 .1 .1 .1 .1 .0;
-      visited = a .1 .1 .1 .1 .1 .1 .1 .1 .1 .0;
-      inNext = a .1 .1 .1 .1 .1 .1 .1 .1 .1 .1 .0;
-      outNext = a .1 .1 .1 .1 .1 .1 .1 .1 .1 .1 .1 .0;
-    }
+    let a = long-enough (g .n) (g .limit) t (l .longs) in
+    record { states = l .few-states; bound = l .low-limit; steps = l .room; news = a .0; long = a .1 }
 
 -- what the tests 5 to 9 leave
 pub sendable-of : (g : Graph) (marks status : List ℕ) (x : Update) → g .steps ≤ g .limit → sentNumber g marks status x ≡ 0 → Sendable (g .n) (g .limit) (g .steps) x × (hasClosed (getD marks (source x) 0) ≡ false)
@@ -89,11 +60,7 @@ in-range n limit m (Close u) s = s
 module _ (g : Graph) (x : Update) (t : Tables) where
   -- a refusal, by the caller's tests or by the explorer's
   refusal-kept : (k : ℕ) → refusalOn g t x ≡ some k → Promise g x t g (Refused k) t
-  refusal-kept k e =
-      record {
-        refuses = λ j q. (ap Refused (let z : k ≡ j = cc in z), refl, refl);
-        accepts = λ q. absurd (let z : _≡_ {A = ℕ} 0 1 = cc in omega arith);
-      }
+  refusal-kept k e = record { number = sym e; refuses = λ j q. (refl, refl, refl); accepts = λ q. absurd (let z : _≡_ {A = ℕ} 0 1 = cc in omega arith) }
 
   pub lent-kept : (k : ℕ) → lentNumber g (enough (needs (g .n) (g .limit) (lengths t))) ≡ k → (k ≡ 0 → ⊥) → Promise g x t g (Refused k) t
   lent-kept k e n = refusal-kept k (refused-lent g t x k e n)
@@ -127,19 +94,19 @@ module _ (g : Graph) (x : Update) (t : Tables) where
       -- an accepted update that is done keeps the promise
       pub done-kept : Promise g x t (graphAfter g x) (Accepted k) t′
       done-kept =
+          let a = accepted g t x lent e in
+          let k = done-keeps (sendable .0) done in
           record {
-            refuses = λ j q. absurd (let a = accepted g t x lent e in let z : _≡_ {A = ℕ} 0 1 = cc in omega arith);
-            accepts = λ q. (
-              k,
-              refl,
-              record {
-                graph = refl;
-                marks = marked done;
-                from = froms done;
-                to = tos done;
-                kept = done-keeps (sendable .0) done .0;
-                named = done-keeps (sendable .0) done .1;
-                fits = λ h l c. done-fits c (room-of g t lent) (sendable .0) (unclosed c) done;
-              },
-            );
+            number = sym a;
+            refuses = λ j q. absurd (let z : _≡_ {A = ℕ} 0 1 = cc in omega arith);
+            accepts = λ q.
+                record {
+                  graph = refl;
+                  marks = marked done;
+                  from = froms done;
+                  to = tos done;
+                  kept = k .0;
+                  named = k .1;
+                  fits = λ h l c. done-fits c (room-of g t lent) (sendable .0) (unclosed c) done;
+                };
           }

@@ -1,35 +1,34 @@
 -- On tables that fit for a legal history the engine answers what the definitions say: refusals, news and the history after the update.
 -- Assumes nothing.
-use mathlib.Core.Path.{_≡_, refl, sym, _∙_, ap, subst}
+use mathlib.Core.Path.{_≡_, refl, sym, _∙_, ap}
 use mathlib.Core.Bool.{Bool, true, false, cond, _||_}
 use mathlib.Core.List.{List, [], _∷_, _++_}
 use mathlib.Core.Option.{Option, some, none}
-use Prim.Native.Nat.{ℕ, suc, _+_, _<_, _≤_}
+use Prim.Native.Nat.{ℕ, _<_}
 use native.Mathlib.Omega.{arith}
-use native.Mathlib.Decide.{decLe}
-use lib.Dec.{leb, ltb, eqb}
-use lib.ListN.{length, getD, take, length-append}
+use lib.Dec.{leb, eqb}
+use lib.ListN.{length, getD, length-append}
 use borrow.Author.Tests.{leb-false}
 use Rattle.gid.specs.declared.Update.{Update}
 use Rattle.gid.specs.declared.Update.the-variants.{Step, Terminal, Close}
-use Rattle.gid.specs.Histories.{History, Legal}
+use Rattle.gid.specs.Histories.{History}
 use Rattle.gid.specs.Statuses.{isClosed, isDead, status, statusDead}
 use Rattle.gid.specs.News.{news}
-use Rattle.gid.specs.Refusals.{Given, Rule, first, lent, sent, refusal}
-use Rattle.gid.specs.Outcomes.{Outcome, refused, accepted, countSteps, given, outcome, after}
+use Rattle.gid.specs.Refusals.{Rule, first, lent, sent, refusal}
+use Rattle.gid.specs.Outcomes.{accepted, byNumber, countSteps, givenAfter, outcome, after}
 use Rattle.gid.proofs.Decide.{same-test, decides-eq}
 use Rattle.gid.proofs.Tests.{decides-dead}
 use Rattle.gid.proofs.Statuses.{status-dead-by-reach}
 use Rattle.tables.specs.declared.Graph.{Graph}
 use Rattle.tables.specs.Tables.{Tables, enough, needs, lengths}
 use Rattle.tables.specs.Marks.{hasClosed}
-use Rattle.tables.specs.Refused.{refusalOn, given as givenOn}
+use Rattle.tables.specs.Refused.{refusalOn, given}
 use Rattle.tables.specs.Fitting.{sources, Consistent}
+use Rattle.tables.proofs.Bits.{closed-bit}
 use Rattle.tables.proofs.Refusing.{neither}
 use Rattle.engine.specs.declared.Answer.{Answer}
-use Rattle.engine.specs.declared.Answer.the-variants.{Accepted, Refused}
+use Rattle.engine.specs.Answers.{answerNumber, newsOf, answerOutcome}
 use Rattle.engine.specs.Promise.{Promise}
-use Rattle.engine.proofs.Listing.{closed-bit}
 use Rattle.engine.proofs.Running.{Sound, sound-accepted}
 
 pub count-sources : (h : History) → countSteps h ≡ length (sources h)
@@ -57,8 +56,8 @@ module _ {h : History} {g : Graph} {t : Tables} (c : Consistent h g t) where
       same-test (eqb (getD (t .status) u 0) statusDead) (isDead h u) (decides-eq (getD (t .status) u 0) statusDead) (decides-dead h u)
       (λ e. status-dead-by-reach h u .0 (sym (c .status u r) ∙ e)) (λ d. c .status u r ∙ status-dead-by-reach h u .1 d)
 
-  sent-same : (long : Bool) (x : Update) → first (sent (givenOn g long (t .marks) (t .status)) x) ≡ first (sent (given (g .n) (g .limit) h) x)
-  unfolding given
+  sent-same : (long : Bool) (x : Update) → first (sent (given g long (t .marks) (t .status)) x) ≡ first (sent (givenAfter (g .n) (g .limit) h) x)
+  unfolding givenAfter
   sent-same long (Step u v) =
       guarded (leb (g .n) u || leb (g .n) v) (leb (g .n) u || leb (g .n) v) refl
       (rule (hasClosed (getD (t .marks) u 0)) 6 ∷ rule (eqb (getD (t .status) u 0) statusDead) 8 ∷ rule (eqb (g .steps) (g .limit)) 9 ∷ [])
@@ -72,12 +71,12 @@ module _ {h : History} {g : Graph} {t : Tables} (c : Consistent h g t) where
       (λ e. rw (closed-same u (leb-false (g .n) u e)))
 
   -- The number on the tables is the one by the history.
-  pub same-refusal : enough (needs (g .n) (g .limit) (lengths t)) ≡ true → (x : Update) → refusalOn g t x ≡ refusal (given (g .n) (g .limit) h) x
-  unfolding refusal given
+  pub same-refusal : enough (needs (g .n) (g .limit) (lengths t)) ≡ true → (x : Update) → refusalOn g t x ≡ refusal (givenAfter (g .n) (g .limit) h) x
+  unfolding refusal givenAfter
   same-refusal e x =
       append-same
-      (lent (givenOn g (enough (needs (g .n) (g .limit) (lengths t))) (t .marks) (t .status))) (lent (given (g .n) (g .limit) h))
-      (sent (givenOn g (enough (needs (g .n) (g .limit) (lengths t))) (t .marks) (t .status)) x) (sent (given (g .n) (g .limit) h) x)
+      (lent (given g (enough (needs (g .n) (g .limit) (lengths t))) (t .marks) (t .status))) (lent (givenAfter (g .n) (g .limit) h))
+      (sent (given g (enough (needs (g .n) (g .limit) (lengths t))) (t .marks) (t .status)) x) (sent (givenAfter (g .n) (g .limit) h) x)
       (rw (e, c .steps, count-sources h))
       (sent-same (enough (needs (g .n) (g .limit) (lengths t))) x)
     where
@@ -88,21 +87,18 @@ module _ {h : History} {g : Graph} {t : Tables} (c : Consistent h g t) where
           go [] = q
           go (r ∷ l) = ap (λ (o : Option ℕ). cond (r .applies) (some (r .number)) o) (go l)
 
--- What the engine answers, beside the outcome: the news part, or the number.
-pub data Answers (news : List ℕ) : Answer → Outcome → Type 0 where
-  yes-news : {k : ℕ} {l : List ℕ} → take k news ≡ l → Answers news (Accepted k) (accepted l)
-  no-number : {k : ℕ} → Answers news (Refused k) (refused k)
-
+-- What the engine answers is the outcome of the definitions, and the tables are those of the history after it.
 module _ {g₀ : Graph} {t₀ : Tables} {h : History} {g g′ : Graph} {t t′ : Tables} (s : Sound g₀ t₀ h g t) (long : enough (needs (g .n) (g .limit) (lengths t)) ≡ true) (x : Update) {a : Answer} (p : Promise g x t g′ a t′) where
-  pub replay : Answers (t′ .news) a (outcome (g .n) (g .limit) h x) × Sound g₀ t₀ (after (g .n) (g .limit) h x) g′ t′
+  pub replay : (answerOutcome a (t′ .news) ≡ outcome (g .n) (g .limit) h x) × Sound g₀ t₀ (after (g .n) (g .limit) h x) g′ t′
   unfolding outcome after
-  replay = at (refusal (given (g .n) (g .limit) h) x) refl
+  replay = at (refusal (givenAfter (g .n) (g .limit) h) x) refl
     where
-      at : (o : Option ℕ) → refusal (given (g .n) (g .limit) h) x ≡ o → Answers (t′ .news) a (elim o [ none ↦ accepted (news (g .n) h x) | some k ↦ refused k ]) × Sound g₀ t₀ (elim o [ none ↦ x ∷ h | some k ↦ h ]) g′ t′
+      at : (o : Option ℕ) → refusal (givenAfter (g .n) (g .limit) h) x ≡ o → (byNumber (answerNumber a) (newsOf a (t′ .news)) ≡ byNumber o (news (g .n) h x)) × Sound g₀ t₀ (elim o [ none ↦ x ∷ h | some k ↦ h ]) g′ t′
       at none e =
-          let w = p .accepts (same-refusal (s .fits) long x ∙ e) in
-          let q = subst (λ (b : Answer). Promise g x t g′ b t′) (w .1) p in
-          (rw (w .1) (yes-news (w .2 .fits h (s .legal) (s .fits) .1)), sound-accepted s q)
+          let r = same-refusal (s .fits) long x ∙ e in
+          let w = p .accepts r in
+          (rw (p .number, r) (ap accepted (w .fits h (s .legal) (s .fits) .1)), sound-accepted s r w)
       at (some k) e =
-          let w = p .refuses k (same-refusal (s .fits) long x ∙ e) in
-          (rw (w .0) no-number, rw (w .1, w .2) s)
+          let r = same-refusal (s .fits) long x ∙ e in
+          let w = p .refuses k r in
+          (rw (p .number, r), rw (w .1, w .2) s)

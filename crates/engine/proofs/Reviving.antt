@@ -1,21 +1,20 @@
 -- A spread of life: after an update that makes its state live, the states that the search visits are those that become live.
 -- Assumes nothing.
-use mathlib.Core.Path.{_≡_, refl, sym, _∙_, ap, subst}
+use mathlib.Core.Path.{_≡_, sym, _∙_, ap, subst}
 use mathlib.Core.Logic.{_↔_, _⊎_, inl, inr, ⊎-elim}
-use mathlib.Core.Bool.{Bool, true, false, not, cond, _&&_, _||_, true≢false}
-use mathlib.Core.List.{List, [], _∷_, List·Memᴰ·head, List·Memᴰ·tail, List·Memᴰ·cases-cons}
-use Prim.Native.Nat.{ℕ, suc, _+_, _<_, _≤_}
-use native.Mathlib.Omega.{arith}
-use lib.Dec.{eqb, leb}
-use lib.ListN.{length, getD}
-use borrow.Author.Tests.{eqb-true, eqb-false, eq-eqb, ne-eqb, le-leb, lt-leb, not-true}
+use mathlib.Core.Bool.{Bool, true, false, not, _&&_, _||_, true≢false}
+use mathlib.Core.List.{List, _∷_, List·Memᴰ·cases-cons}
+use Prim.Native.Nat.{ℕ, _<_, _≤_}
+use lib.Dec.{eqb}
+use lib.ListN.{getD}
+use borrow.Author.Tests.{ne-eqb}
 use Rattle.gid.specs.declared.Update.{Update}
-use Rattle.gid.specs.declared.Update.the-variants.{Step, Terminal, Close}
+use Rattle.gid.specs.declared.Update.the-variants.{Step, Terminal}
 use Rattle.gid.specs.Updates.{source}
 use Rattle.gid.specs.Histories.{History, IsStep, IsTerminal}
 use Rattle.gid.specs.Verdicts.{Live}
 use Rattle.gid.specs.Statuses.{isLive, statusLive}
-use Rattle.gid.proofs.Decide.{Decides, decided, refutes, decides-or, decides-iff, same-test}
+use Rattle.gid.proofs.Decide.{Decides, decided, refutes, decides-or, same-test}
 use Rattle.gid.proofs.Paths.{within-newer}
 use Rattle.gid.proofs.Tests.{decides-live}
 use Rattle.gid.proofs.Deadness.{live-within, live-terminal, live-source, live-least}
@@ -23,7 +22,7 @@ use Rattle.tables.specs.Work.{ListRule, NoneVisited, marked}
 use Rattle.adjacency.proofs.Walks.{linked}
 use Rattle.search.specs.declared.spread.Mode.the-variants.{Live as byLive}
 use Rattle.search.specs.declared.spread.Span.{Span}
-use Rattle.search.specs.Spreading.{Arcs, arcs, allowed, fresh, Reached, start, back, Spread}
+use Rattle.search.specs.Spreading.{arcs, fresh, Reached, start, back, Spread}
 
 -- What a spread of life starts from: the n states and m listed steps of the history with the update x, and the statuses as they were before it.
 pub record Revival (h : History) (x : Update) (n m : ℕ) (from to head next status visited : List ℕ) : Type 0 where

@@ -1,99 +1,47 @@
 -- What holds all along a run from fresh tables.
 -- Assumes nothing.
-use mathlib.Core.Path.{_≡_, refl, sym, _∙_, ap, subst}
-use mathlib.Core.Bool.{Bool, true, false, not, _||_}
-use mathlib.Core.List.{List, [], _∷_, _++_}
-use mathlib.Core.Option.{Option, some, none}
-use Prim.Native.Nat.{ℕ, _+_, _<_, _≤_}
+use mathlib.Core.Path.{_≡_, refl, sym, _∙_, ap}
+use mathlib.Core.Bool.{true, false}
+use mathlib.Core.List.{List, _∷_}
+use mathlib.Core.Option.{some, none}
+use Prim.Native.Nat.{ℕ, _<_, _≤_}
 use native.Mathlib.Omega.{arith}
-use lib.Dec.{leb, ltb, eqb}
-use lib.ListN.{length, getD, set, length-set}
+use lib.Dec.{eqb}
+use lib.ListN.{getD}
 use borrow.Author.Tests.{lt-leb, le-ltb, ne-eqb}
 use Rattle.gid.specs.declared.Update.{Update}
 use Rattle.gid.specs.declared.Update.the-variants.{Step, Terminal, Close}
 use Rattle.gid.specs.Updates.{source}
 use Rattle.gid.specs.Histories.{History, Legal, IsClosed}
 use Rattle.gid.specs.Statuses.{isClosed, statusDead}
-use Rattle.gid.specs.Refusals.{lent, sent, refusal, first, maxStates, maxSteps}
+use Rattle.gid.specs.Refusals.{lent, sent, refusal, maxStates, maxSteps}
 use Rattle.gid.proofs.Decide.{refutes, refuted}
 use Rattle.gid.proofs.Tests.{decides-closed}
 use Rattle.gid.proofs.Deadness.{dead-closed}
 use Rattle.gid.proofs.Statuses.{status-dead-by-reach}
 use Rattle.tables.specs.declared.Graph.{Graph}
-use Rattle.tables.specs.declared.lengths.Lengths.{Lengths}
 use Rattle.tables.specs.Tables.{Tables, enough, needs, lengths}
 use Rattle.tables.specs.Marks.{hasClosed}
-use Rattle.tables.specs.Listing.{fromAfter, toAfter, graphAfter}
-use Rattle.tables.specs.Refused.{given, refusalOn, lentNumber, sentNumber}
-use Rattle.tables.specs.Fitting.{Consistent, Fresh}
+use Rattle.tables.specs.Listing.{graphAfter}
+use Rattle.tables.specs.Refused.{given, refusalOn}
+use Rattle.tables.specs.Fitting.{Checked, Consistent, Fresh}
+use Rattle.tables.proofs.Bits.{closed-bit}
+use Rattle.tables.proofs.Keeping.{lengths-kept}
 use Rattle.tables.proofs.Refusing.{Passed, none-applies, first-none, accepted-passes}
 use Rattle.tables.proofs.Starting.{fresh-consistent}
 use Rattle.engine.specs.declared.Answer.{Answer}
 use Rattle.engine.specs.declared.Answer.the-variants.{Accepted, Refused}
-use Rattle.engine.specs.Effects.{marksAfter}
-use Rattle.engine.specs.Done.{Sendable}
-use Rattle.engine.specs.Promise.{AcceptedUpdate, Promise}
-use Rattle.engine.specs.Runs.{Checked, Run, begun, accepted, refused}
-use Rattle.engine.proofs.Listing.{closed-bit}
-use Rattle.engine.proofs.Promising.{room-of, sendable-of, in-range}
+use Rattle.engine.specs.Promise.{AcceptedUpdate, Promise, Sendable}
+use Rattle.engine.specs.Runs.{Run, begun, accepted, refused}
+use Rattle.engine.proofs.Promising.{sendable-of, in-range}
 
 -- What an accepting and a refusing answer tell.
 module _ {g : Graph} {x : Update} {t : Tables} {g′ : Graph} {t′ : Tables} {k : ℕ} where
-  pub was-accepted : Promise g x t g′ (Accepted k) t′ → (refusalOn g t x ≡ none) × AcceptedUpdate g x t g′ t′ k
-  was-accepted p = at (refusalOn g t x) refl
-    where
-      at : (o : Option ℕ) → refusalOn g t x ≡ o → (refusalOn g t x ≡ none) × AcceptedUpdate g x t g′ t′ k
-      at none e =
-          let r = p .accepts e in
-          let z : k ≡ r .0 = let q = r .1 in cc in
-          (e, rw z (r .2))
-      at (some j) e = absurd (let q = p .refuses j e .0 in let z : _≡_ {A = ℕ} 0 1 = cc in omega arith)
+  pub was-accepted : Promise g x t g′ (Accepted k) t′ → (refusalOn g t x ≡ none) × AcceptedUpdate g x t g′ t′ (Accepted k)
+  was-accepted p = (sym (p .number), p .accepts (sym (p .number)))
 
   pub was-refused : Promise g x t g′ (Refused k) t′ → (refusalOn g t x ≡ some k) × (g′ ≡ g) × (t′ ≡ t)
-  was-refused p = at (refusalOn g t x) refl
-    where
-      at : (o : Option ℕ) → refusalOn g t x ≡ o → (refusalOn g t x ≡ some k) × (g′ ≡ g) × (t′ ≡ t)
-      at none e = absurd (let q = p .accepts e .1 in let z : _≡_ {A = ℕ} 0 1 = cc in omega arith)
-      at (some j) e =
-          let r = p .refuses j e in
-          let z : j ≡ k = let q = r .0 in cc in
-          (e ∙ ap some z, r .1, r .2)
-
-marks-length : (x : Update) (l : List ℕ) → length (marksAfter x l) ≡ length l
-marks-length (Step u v) l = simp length-set
-marks-length (Terminal u) l = simp length-set
-marks-length (Close u) l = simp length-set
-
-from-length : (m : ℕ) (x : Update) (l : List ℕ) → length (fromAfter m x l) ≡ length l
-from-length m (Step u v) l = simp length-set
-from-length m (Terminal u) l = refl
-from-length m (Close u) l = refl
-
-to-length : (m : ℕ) (x : Update) (l : List ℕ) → length (toAfter m x l) ≡ length l
-to-length m (Step u v) l = simp length-set
-to-length m (Terminal u) l = refl
-to-length m (Close u) l = refl
-
--- an accepted update keeps every length
-lengths-kept : {g : Graph} {x : Update} {t : Tables} {g′ : Graph} {t′ : Tables} {k : ℕ} → AcceptedUpdate g x t g′ t′ k → lengths t′ ≡ lengths t
-lengths-kept {g} {x} {t} a =
-    let m = ap length (a .marks) ∙ marks-length x (t .marks) in
-    let f = ap length (a .from) ∙ from-length (g .steps) x (t .from) in
-    let o = ap length (a .to) ∙ to-length (g .steps) x (t .to) in
-    rw (
-      a .kept .status .size,
-      m,
-      a .kept .successor .size,
-      a .named .behind .size,
-      a .kept .inHead .size,
-      a .kept .outHead .size,
-      a .kept .queue .size,
-      a .kept .visited .size,
-      f,
-      o,
-      a .kept .inNext .size,
-      a .kept .outNext .size,
-    )
+  was-refused p = let r = p .refuses k (sym (p .number)) in (sym (p .number), r .1, r .2)
 
 steps-room : (g : Graph) (x : Update) → Sendable (g .n) (g .limit) (g .steps) x → g .steps ≤ g .limit → graphAfter g x .steps ≤ g .limit
 steps-room g (Step u v) s h = omega (arith, s .2)
@@ -105,7 +53,7 @@ same-states g (Step u v) = refl
 same-states g (Terminal u) = refl
 same-states g (Close u) = refl
 
-same-limit : (g : Graph) (x : Update) → graphAfter g x .limit ≡ g .limit
+pub same-limit : (g : Graph) (x : Update) → graphAfter g x .limit ≡ g .limit
 same-limit g (Step u v) = refl
 same-limit g (Terminal u) = refl
 same-limit g (Close u) = refl
@@ -139,23 +87,22 @@ module _ {g₀ : Graph} {t₀ : Tables} where
       let q = sendable-of g (t .marks) (t .status) x (s .room) (p .1) in
       refuted (decides-closed h (source x)) (sym (closed-bit h (source x)) ∙ ap hasClosed (sym (s .fits .marks (source x) (in-range (g .n) (g .limit) (g .steps) x (q .0)))) ∙ q .1)
 
-  pub sound-accepted : {h : History} {g g′ : Graph} {t t′ : Tables} {x : Update} {k : ℕ} → Sound g₀ t₀ h g t → Promise g x t g′ (Accepted k) t′ → Sound g₀ t₀ (x ∷ h) g′ t′
-  sound-accepted {h} {g} {g′} {t} {t′} {x} s p =
-      let a = was-accepted p in
-      let q = accepted-passes g t x (a .0) in
+  pub sound-accepted : {h : History} {g g′ : Graph} {t t′ : Tables} {x : Update} {a : Answer} → Sound g₀ t₀ h g t → refusalOn g t x ≡ none → AcceptedUpdate g x t g′ t′ a → Sound g₀ t₀ (x ∷ h) g′ t′
+  sound-accepted {h} {g} {g′} {t} {t′} {x} s e a =
+      let q = accepted-passes g t x e in
       let d = sendable-of g (t .marks) (t .status) x (s .room) (q .1) in
       record {
-        legal = (s .legal, unclosed s x (a .0));
-        fits = a .1 .fits h (s .legal) (s .fits) .0;
-        states = ap (λ (e : Graph). e .n) (a .1 .graph) ∙ same-states g x ∙ s .states;
-        limit = ap (λ (e : Graph). e .limit) (a .1 .graph) ∙ same-limit g x ∙ s .limit;
-        sizes = lengths-kept (a .1) ∙ s .sizes;
-        room = rw (a .1 .graph, same-limit g x) (steps-room g x (d .0) (s .room));
+        legal = (s .legal, unclosed s x e);
+        fits = a .fits h (s .legal) (s .fits) .0;
+        states = ap (λ (e : Graph). e .n) (a .graph) ∙ same-states g x ∙ s .states;
+        limit = ap (λ (e : Graph). e .limit) (a .graph) ∙ same-limit g x ∙ s .limit;
+        sizes = lengths-kept (a .kept) ∙ s .sizes;
+        room = rw (a .graph, same-limit g x) (steps-room g x (d .0) (s .room));
       }
 
   pub sound : {xs : List Update} {h : History} {g : Graph} {t : Tables} → Fresh g₀ t₀ → Run g₀ t₀ xs h g t → Sound g₀ t₀ h g t
   sound f begun = record { legal = tt; fits = fresh-consistent g₀ t₀ f; states = refl; limit = refl; sizes = refl; room = omega (arith, f .noSteps) }
-  sound f (accepted r c x k p) = sound-accepted (sound-checked (sound f r) c) p
+  sound f (accepted r c x k p) = let a = was-accepted p in sound-accepted (sound-checked (sound f r) c) (a .0) (a .1)
   sound f (refused r c x k p) = let q = was-refused p in rw (q .1, q .2) (sound-checked (sound f r) c)
 
   -- Where the tests 1 to 4 find nothing, an update in range, from a state that is not closed and, for a step, with a free place is accepted.

@@ -1,37 +1,35 @@
 -- A step or a terminal mark: tables that fit for a history fit for the history with it, and the news is the definition's.
 -- Assumes nothing.
 use mathlib.Core.Path.{_≡_, refl, sym, _∙_, ap, subst}
-use mathlib.Core.Logic.{_↔_, _⊎_, inl, inr, ⊎-elim}
 use mathlib.Core.Bool.{Bool, true, false, not, cond, _&&_, _||_, true≢false}
-use mathlib.Core.List.{List, [], _∷_}
-use Prim.Native.Nat.{ℕ, suc, _+_, _-_, _<_, _≤_}
+use mathlib.Core.List.{List, _∷_}
+use Prim.Native.Nat.{ℕ, _<_, _≤_}
 use native.Mathlib.Omega.{arith}
 use native.Mathlib.Decide.{ℕ-discrete}
 use lib.Dec.{eqb}
-use lib.ListN.{length, getD, set, take, length-set}
-use borrow.Author.Tests.{eqb-true, eqb-false, eq-eqb, ne-eqb}
+use lib.ListN.{length, getD, take, length-set}
+use borrow.Author.Tests.{ne-eqb}
 use Rattle.gid.specs.declared.Update.{Update}
 use Rattle.gid.specs.declared.Update.the-variants.{Step, Terminal, Close}
 use Rattle.gid.specs.Updates.{source}
-use Rattle.gid.specs.Histories.{History, IsStep, IsClosed}
-use Rattle.gid.specs.Verdicts.{Live}
-use Rattle.gid.specs.Statuses.{isNamed, isTerminal, isClosed, isLive, isDead, status, statusUnseen, statusOpen, statusUnknown, statusLive, statusDead}
+use Rattle.gid.specs.Histories.{History, IsClosed}
+use Rattle.gid.specs.Statuses.{isNamed, isClosed, isLive, isDead, status, statusUnseen, statusOpen, statusUnknown, statusLive}
 use Rattle.gid.specs.News.{settles, below, news}
 use Rattle.gid.specs.Successors.{Chain, ends, follows, Having, SuccessorRule, noSuccessor}
-use Rattle.gid.proofs.Decide.{refuted, refutes}
+use Rattle.gid.proofs.Decide.{refutes}
 use Rattle.gid.proofs.Tests.{decides-live}
 use Rattle.gid.proofs.Statuses.{status-live}
 use Rattle.gid.proofs.Chains.{successor-rule}
 use Rattle.gid.proofs.After.{same-dead-sent}
 use Rattle.tables.specs.declared.Graph.{Graph}
 use Rattle.tables.specs.Tables.{Tables}
-use Rattle.tables.specs.Work.{NoneVisited, marked}
+use Rattle.tables.specs.Work.{NoneVisited}
 use Rattle.tables.specs.Fitting.{Consistent}
 use Rattle.engine.specs.Effects.{namedByte, nameAt}
-use Rattle.engine.specs.Written.{Written, namesAfter}
+use Rattle.engine.specs.Searches.{SearchTables, namesAfter}
 use Rattle.engine.specs.Outcomes.{Right}
 use Rattle.engine.proofs.Naming.{set-at, InRange}
-use Rattle.engine.proofs.Settlement.{byTests, sent-status}
+use Rattle.engine.proofs.Settlement.{sent-status}
 
 -- an update that is no close
 abbrev pub Sent : Update → Type 0
@@ -85,7 +83,7 @@ names-at (Terminal u) l n b r s = named-one l u (omega arith) s
 names-at (Close u) l n b r s = named-one l u (omega arith) s
 
 -- What a step or a terminal mark leaves: the states of the test W become live, those named are no longer unseen, and nothing else changes.
-pub record Spreads (h : History) (x : Update) (n m : ℕ) (from to : List ℕ) (b a : Written) (k : ℕ) (W : ℕ → Bool) : Type 0 where
+pub record Spreads (h : History) (x : Update) (n m : ℕ) (from to : List ℕ) (b a : SearchTables) (k : ℕ) (W : ℕ → Bool) : Type 0 where
   pub statuses : (s : ℕ) → s < n → getD (a .status) s 0 ≡ cond (W s) statusLive (getD (b .status) s 0)
   pub successors : (s : ℕ) → s < n → getD (a .successor) s 0 ≡ cond (W s) noSuccessor (getD (b .successor) s 0)
   pub unvisited : NoneVisited n (a .visited)
@@ -117,7 +115,7 @@ seen-stays false k n = refl
 
 module _ {h : History} {g : Graph} {t : Tables} (c : Consistent h g t) {x : Update} (sent : Sent x) (range : InRange (g .n) x) (unclosed : IsClosed h (source x) → ⊥) (long : g .n ≤ length (t .status))
     {m : ℕ} {from to : List ℕ} (more : g .steps ≤ m) (oldFrom : (p : ℕ) → p < g .steps → getD from p 0 ≡ getD (t .from) p 0) (oldTo : (p : ℕ) → p < g .steps → getD to p 0 ≡ getD (t .to) p 0)
-    {b a : Written} {k : ℕ} {W : ℕ → Bool} (named : b .status ≡ namesAfter x (t .status)) (same : b .successor ≡ t .successor) (w : Spreads h x (g .n) m from to b a k W) where
+    {b a : SearchTables} {k : ℕ} {W : ℕ → Bool} (named : b .status ≡ namesAfter x (t .status)) (same : b .successor ≡ t .successor) (w : Spreads h x (g .n) m from to b a k W) where
   status-at : (s : ℕ) → s < g .n → getD (a .status) s 0 ≡ cond (W s) statusLive (cond (mentions x s) (namedByte (getD (t .status) s 0)) (getD (t .status) s 0))
   status-at s q = w .statuses s q ∙ rw named (ap (λ (y : ℕ). cond (W s) statusLive y) (names-at x (t .status) (g .n) long range s))
 

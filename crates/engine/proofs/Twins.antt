@@ -2,32 +2,30 @@
 -- Assumes nothing.
 use mathlib.Core.Path.{_≡_, refl, sym, _∙_, ap, subst}
 use mathlib.Core.Bool.{true}
-use mathlib.Core.List.{List, [], _∷_, _++_}
+use mathlib.Core.List.{List, [], _∷_}
 use mathlib.Core.Option.{Option, some, none}
-use Prim.Native.Nat.{ℕ, _+_, _<_, _≤_}
+use Prim.Native.Nat.{ℕ, _<_, _≤_}
 use native.Mathlib.Omega.{arith}
-use lib.ListN.{length, getD, take, length-append}
-use lib.Seq.{length-take-le}
+use lib.ListN.{length, getD, length-append}
 use Rattle.gid.specs.declared.Update.{Update}
 use Rattle.gid.specs.declared.Update.the-variants.{Step, Terminal, Close}
 use Rattle.gid.specs.Updates.{source}
-use Rattle.gid.specs.Histories.{History, Legal, IsClosed, IsNamed}
-use Rattle.gid.specs.Verdicts.{Live}
+use Rattle.gid.specs.Histories.{History, IsNamed}
 use Rattle.gid.specs.Statuses.{status}
 use Rattle.gid.specs.News.{news}
-use Rattle.gid.specs.Pruning.{Pruned, start, keep, leave, Agrees}
+use Rattle.gid.specs.Pruning.{Pruned, start, keep, leave}
 use Rattle.gid.proofs.Pruning.{keeps, pruning}
 use Rattle.tables.specs.declared.Graph.{Graph}
 use Rattle.tables.specs.declared.lengths.Lengths.{Lengths}
 use Rattle.tables.specs.Tables.{Tables, enough, needs, lengths}
 use Rattle.tables.specs.Refused.{refusalOn}
-use Rattle.tables.specs.Fitting.{sources, Consistent, Fresh}
+use Rattle.tables.specs.Fitting.{sources, Fresh}
 use Rattle.tables.proofs.Refusing.{lent-leaves, accepted-passes}
-use Rattle.engine.specs.declared.Answer.the-variants.{Accepted, Refused}
-use Rattle.engine.specs.Done.{Sendable}
-use Rattle.engine.specs.Promise.{Promise}
-use Rattle.engine.specs.Runs.{Checked, Run, begun, accepted, refused, Agree}
-use Rattle.engine.proofs.Promising.{room-of, sendable-of}
+use Rattle.engine.specs.declared.Answer.the-variants.{Accepted}
+use Rattle.engine.specs.Answers.{newsOf}
+use Rattle.engine.specs.Promise.{Promise, Sendable}
+use Rattle.engine.specs.Runs.{Run, begun, accepted, refused, Agree}
+use Rattle.engine.proofs.Promising.{sendable-of}
 use Rattle.engine.proofs.Running.{was-accepted, was-refused, Sound, sound, sound-checked, unclosed, not-refused, same-states}
 
 both : {o : Option ℕ} {k : ℕ} → o ≡ none → o ≡ some k → ⊥
@@ -70,7 +68,7 @@ module _ {g₀ g₁ : Graph} {t₀ t₁ : Tables} (fresh₀ : Fresh g₀ t₀) (
 
   -- one accepted update has the news of the definition, and the statuses after it
   module _ {g₂ : Graph} {t₂ : Tables} {h : History} {g g′ : Graph} {t t′ : Tables} {x : Update} {k : ℕ} (s : Sound g₂ t₂ h g t) (o : Promise g x t g′ (Accepted k) t′) where
-    news-of : take k (t′ .news) ≡ news (g .n) h x
+    news-of : newsOf (Accepted k) (t′ .news) ≡ news (g .n) h x
     news-of = was-accepted o .1 .fits h (s .legal) (s .fits) .1
 
     status-of : (r : ℕ) → r < g′ .n → getD (t′ .status) r 0 ≡ status (x ∷ h) r
@@ -82,16 +80,8 @@ module _ {g₀ g₁ : Graph} {t₀ t₁ : Tables} (fresh₀ : Fresh g₀ t₀) (
     states-of : g′ .n ≡ g .n
     states-of = ap (λ (e : Graph). e .n) (was-accepted o .1 .graph) ∙ same-states g x
 
-    no-news : news (g .n) h x ≡ [] → k ≡ 0
-    no-news e =
-        let a = was-accepted o in
-        let room = room-of g t (accepted-passes g t x (a .0) .0) in
-        let l = length-take-le k (t′ .news) (omega (arith, a .1 .named .few, room .news, a .1 .named .behind .size)) in
-        let z : length (take k (t′ .news)) ≡ 0 = ap length (news-of ∙ e) in
-        omega arith
-
   -- a kept update, where the histories are f and p
-  kept-agree : {f p : History} {g g₂ g′ g₂′ : Graph} {t t₂ t′ t₂′ : Tables} {x : Update} {k j : ℕ} (c : Pruned f p) (s : Sound g₀ t₀ f g t) (s′ : Sound g₁ t₁ p g₂ t₂) → Promise g x t g′ (Accepted k) t′ → Promise g₂ x t₂ g₂′ (Accepted j) t₂′ → (take k (t′ .news) ≡ take j (t₂′ .news)) × ((r : ℕ) → IsNamed (x ∷ p) r → getD (t′ .status) r 0 ≡ getD (t₂′ .status) r 0)
+  kept-agree : {f p : History} {g g₂ g′ g₂′ : Graph} {t t₂ t′ t₂′ : Tables} {x : Update} {k j : ℕ} (c : Pruned f p) (s : Sound g₀ t₀ f g t) (s′ : Sound g₁ t₁ p g₂ t₂) → Promise g x t g′ (Accepted k) t′ → Promise g₂ x t₂ g₂′ (Accepted j) t₂′ → (newsOf (Accepted k) (t′ .news) ≡ newsOf (Accepted j) (t₂′ .news)) × ((r : ℕ) → IsNamed (x ∷ p) r → getD (t′ .status) r 0 ≡ getD (t₂′ .status) r 0)
   kept-agree {f} {p} {g} {g₂} {g′} {g₂′} {t} {t₂} {t′} {t₂′} {x} c s s′ o o′ =
       let n : g₂ .n ≡ g .n = s′ .states ∙ states ∙ sym (s .states) in
       let a = pruning (g .n) (keep x c) (s .legal, unclosed s x (was-accepted o .0)) .1 in (
@@ -119,4 +109,4 @@ module _ {g₀ g₁ : Graph} {t₀ t₁ : Tables} (fresh₀ : Fresh g₀ t₀) (
       let i = agree full c thin in
       let s₁ = sound-checked (sound fresh₀ full) s in
       let a = pruning _ (leave y l c) (s₁ .legal, unclosed s₁ y (was-accepted o .0)) .1 in
-      (i .0, (i .1, no-news s₁ o (a .1)))
+      (i .0, (i .1, news-of s₁ o ∙ a .1))

@@ -2,14 +2,14 @@
 -- Assumes nothing.
 use mathlib.Core.Path.{_≡_}
 use mathlib.Core.List.{List}
-use Prim.Native.Nat.{ℕ, _+_, _<_, _≤_}
+use Prim.Native.Nat.{ℕ, _+_, _≤_}
 use lib.ListN.{length, set}
 use Rattle.gid.specs.declared.Update.{Update}
 use Rattle.gid.specs.declared.Update.the-variants.{Step, Terminal, Close}
-use Rattle.tables.specs.Tables.{Tables}
+use Rattle.tables.specs.Tables.{Tables, Long}
 use Rattle.adjacency.specs.Walks.{Pushed}
 use Rattle.engine.specs.Effects.{marksAfter}
-use Rattle.engine.specs.Written.{Written, namesAfter, MakesLive, Joins, Closes}
+use Rattle.engine.specs.Searches.{SearchTables, namesAfter, MakesLive, Joins, Closes}
 
 -- The step from u to v is listed behind the m steps: in the list, and in front of the steps out of u and into v.
 pub record Listed (m u v : ℕ) (from to inHead outHead inNext outNext from′ to′ inHead′ outHead′ inNext′ outNext′ : List ℕ) : Type 0 where
@@ -19,10 +19,10 @@ pub record Listed (m u v : ℕ) (from to inHead outHead inNext outNext from′ t
   pub into : Pushed inHead inNext v m inHead′ inNext′
 
 -- The tables that a search writes, before and after.
-abbrev pub written : Tables → Written
-written t = record { status = t .status; successor = t .successor; news = t .news; visited = t .visited; queue = t .queue }
+abbrev pub searchTables : Tables → SearchTables
+searchTables t = record { status = t .status; successor = t .successor; news = t .news; visited = t .visited; queue = t .queue }
 
-abbrev pub naming : Update → Written → Written
+abbrev pub naming : Update → SearchTables → SearchTables
 naming x b = record { status = namesAfter x (b .status); successor = b .successor; news = b .news; visited = b .visited; queue = b .queue }
 
 -- The list of steps and its chains stay as they are.
@@ -39,55 +39,21 @@ pub data Done (n m : ℕ) (t t′ : Tables) (k : ℕ) : Update → Type 0 where
   stepped :
       {u v : ℕ} → t′ .marks ≡ marksAfter (Step u v) (t .marks) →
       Listed m u v (t .from) (t .to) (t .inHead) (t .outHead) (t .inNext) (t .outNext) (t′ .from) (t′ .to) (t′ .inHead) (t′ .outHead) (t′ .inNext) (t′ .outNext) →
-      Joins n (m + 1) u v (t′ .from) (t′ .inHead) (t′ .inNext) (naming (Step u v) (written t)) (written t′) k →
+      Joins n (m + 1) u v (t′ .from) (t′ .inHead) (t′ .inNext) (naming (Step u v) (searchTables t)) (searchTables t′) k →
       Done n m t t′ k (Step u v)
   terminated :
       {u : ℕ} → t′ .marks ≡ marksAfter (Terminal u) (t .marks) → SameList t t′ →
-      MakesLive n m u (t .from) (t .inHead) (t .inNext) (naming (Terminal u) (written t)) (written t′) k →
+      MakesLive n m u (t .from) (t .inHead) (t .inNext) (naming (Terminal u) (searchTables t)) (searchTables t′) k →
       Done n m t t′ k (Terminal u)
   closed :
       {u : ℕ} → t′ .marks ≡ marksAfter (Close u) (t .marks) → SameList t t′ →
-      Closes n m u (t .from) (t .to) (t .inHead) (t .outHead) (t .inNext) (t .outNext) (naming (Close u) (written t)) (written t′) k →
+      Closes n m u (t .from) (t .to) (t .inHead) (t .outHead) (t .inNext) (t .outNext) (naming (Close u) (searchTables t)) (searchTables t′) k →
       Done n m t t′ k (Close u)
 
--- The lent lists, in the order in which the calls take them.
-abbrev pub tablesOf : (status marks from to successor news inHead outHead queue visited inNext outNext : List ℕ) → Tables
-tablesOf status marks from to successor news inHead outHead queue visited inNext outNext =
-    record {
-      status = status;
-      marks = marks;
-      from = from;
-      to = to;
-      successor = successor;
-      news = news;
-      inHead = inHead;
-      outHead = outHead;
-      queue = queue;
-      visited = visited;
-      inNext = inNext;
-      outNext = outNext;
-    }
-
--- What the tests 1 to 9 leave to an accepted update.
+-- What the tests 1 to 4 leave to an update.
 pub record Room (n limit m : ℕ) (t : Tables) : Type 0 where
   pub states : n ≤ 2048
   pub bound : limit ≤ 8192
   pub steps : m ≤ limit
-  pub status : n ≤ length (t .status)
-  pub marks : n ≤ length (t .marks)
-  pub from : limit ≤ length (t .from)
-  pub to : limit ≤ length (t .to)
-  pub successor : n ≤ length (t .successor)
   pub news : n ≤ length (t .news)
-  pub inHead : n ≤ length (t .inHead)
-  pub outHead : n ≤ length (t .outHead)
-  pub queue : n ≤ length (t .queue)
-  pub visited : n ≤ length (t .visited)
-  pub inNext : limit ≤ length (t .inNext)
-  pub outNext : limit ≤ length (t .outNext)
-
--- The update's states are below n, and a step has a free place.
-abbrev pub Sendable : ℕ → ℕ → ℕ → Update → Type 0
-Sendable n limit m (Step u v) = (u < n) × (v < n) × (m < limit)
-Sendable n limit m (Terminal u) = u < n
-Sendable n limit m (Close u) = u < n
+  pub long : Long n limit t

@@ -1,8 +1,8 @@
 -- What an accepted update does to the marks and to the statuses of the states that it names, on tables with any contents.
 -- Assumes nothing.
-use mathlib.Core.Bool.{Bool, cond, _&&_, _||_}
+use mathlib.Core.Bool.{cond}
 use mathlib.Core.List.{List}
-use Prim.Native.Nat.{ℕ, _+_}
+use Prim.Native.Nat.{ℕ}
 use lib.Dec.{eqb}
 use lib.ListN.{getD, set}
 use Rattle.gid.specs.declared.Update.{Update}

@@ -1,7 +1,9 @@
--- What the engine does and promises.
+-- What the engine promises. This is what a reader believes:
+pub mod Answers
 pub mod Effects
-pub mod Written
-pub mod Outcomes
-pub mod Done
 pub mod Promise
 pub mod Runs
+-- Inner contracts, which no promise cites: what each part of an update does, on tables with any contents, and what is to come of it. The proofs bind them to the promise.
+pub mod Searches
+pub mod Outcomes
+pub mod Done

@@ -2,28 +2,17 @@
 -- Assumes nothing.
 use mathlib.Core.Path.{_≡_}
 use mathlib.Core.List.{List, [], _∷_}
-use Prim.Native.Nat.{ℕ, _<_}
-use lib.ListN.{length, getD, take}
+use Prim.Native.Nat.{ℕ}
+use lib.ListN.{getD}
 use Rattle.gid.specs.declared.Update.{Update}
-use Rattle.gid.specs.Histories.{History, Legal, IsNamed}
+use Rattle.gid.specs.Histories.{History, IsNamed}
 use Rattle.gid.specs.Pruning.{Pruned, start, keep, leave}
 use Rattle.tables.specs.declared.Graph.{Graph}
-use Rattle.tables.specs.Tables.{Tables, lengths}
-use Rattle.tables.specs.Fitting.{Consistent}
-use Rattle.engine.specs.declared.Answer.{Answer}
+use Rattle.tables.specs.Tables.{Tables}
+use Rattle.tables.specs.Fitting.{Checked}
 use Rattle.engine.specs.declared.Answer.the-variants.{Accepted, Refused}
+use Rattle.engine.specs.Answers.{newsOf}
 use Rattle.engine.specs.Promise.{Promise}
-
--- What a table check between two calls leaves: all tables as they were, "but for what a table check in between wrote into work tables", "which after a yes still fit". No check at all leaves them so too.
-pub record Checked (g : Graph) (t t′ : Tables) : Type 0 where
-  pub status : t′ .status ≡ t .status
-  pub marks : t′ .marks ≡ t .marks
-  pub from : t′ .from ≡ t .from
-  pub to : t′ .to ≡ t .to
-  pub successor : t′ .successor ≡ t .successor
-  pub news : t′ .news ≡ t .news
-  pub sizes : lengths t′ ≡ lengths t
-  pub fits : (h : History) → Legal h → Consistent h g t → Consistent h g t′
 
 -- A run that starts on the state value g₀ and the tables t₀: the updates sent and the history of those accepted, each the newest first, and the state value and the tables that the last call left. "Each later call gets the state value that the last one returned and all tables as that one left them." Any engine that keeps the promise may have made the calls.
 pub data Run (g₀ : Graph) (t₀ : Tables) : List Update → History → Graph → Tables → Type 0 where
@@ -42,6 +31,6 @@ abbrev pub Agree :
 Agree begun start thin = Unit {0}
 Agree (refused full s x k o) c thin = Agree full c thin
 Agree (accepted {t′ = f} full s x k o) (keep _ c) (accepted {h = q} {t′ = p} thin _ _ j _) =
-    Agree full c thin × (take k (f .news) ≡ take j (p .news)) × ((r : ℕ) → IsNamed (x ∷ q) r → getD (f .status) r 0 ≡ getD (p .status) r 0)
+    Agree full c thin × (newsOf (Accepted k) (f .news) ≡ newsOf (Accepted j) (p .news)) × ((r : ℕ) → IsNamed (x ∷ q) r → getD (f .status) r 0 ≡ getD (p .status) r 0)
 Agree (accepted full s x k o) (keep _ c) (refused thin _ _ j _) = ⊥
-Agree (accepted full s x k o) (leave _ l c) thin = Agree full c thin × (k ≡ 0)
+Agree (accepted {t′ = f} full s x k o) (leave _ l c) thin = Agree full c thin × (newsOf (Accepted k) (f .news) ≡ [])

@@ -1,13 +1,15 @@
 // What an accepted update does.
 ghost use mathlib.Core.Path.{_≡_};
-ghost use Prim.Native.Nat.{ℕ, _+_, _≤_, _<_};
-ghost use lib.ListN.{length, getD, set};
+ghost use Prim.Native.Nat.{_+_, _≤_, _<_};
+ghost use lib.ListN.{length};
 ghost use Rattle.gid.specs.declared.Update.{Update};
 ghost use Rattle.tables.specs.Marks.{withNamed};
 ghost use Rattle.search.specs.Spreading.{arcs, Walkable};
 ghost use Rattle.engine.specs.Effects.{markAt, nameAt, marksAfter};
-ghost use Rattle.engine.specs.Written.{namesAfter, MakesLive, Joins, Sweep, Closes};
-ghost use Rattle.engine.specs.Done.{Listed, Done, Room, Sendable, tablesOf};
+ghost use Rattle.engine.specs.Searches.{namesAfter, MakesLive, Joins, Sweep, Closes};
+ghost use Rattle.tables.specs.Tables.{tablesOf};
+ghost use Rattle.engine.specs.Done.{Listed, Done, Room};
+ghost use Rattle.engine.specs.Promise.{Sendable};
 use adjacency::push;
 use gid::Update;
 use search::near::near_escape;
@@ -214,11 +216,11 @@ fn terminal(
     )
 }
 
-// Settles live u and whatever leads to it, where u is not live yet.
+// Settles live a state that is not live yet, and whatever leads to it.
 fn make_live(
     n: usize,
     steps: usize,
-    u: usize,
+    state: usize,
     status: &mut [u8],
     from: &[u16],
     successor: &mut [u16],
@@ -228,20 +230,20 @@ fn make_live(
     visited: &mut [u16],
     in_next: &[u16],
 ) -> usize
-    requires { ⌜ (u < n) × (n ≤ 2048) ⌝ }
+    requires { ⌜ (state < n) × (n ≤ 2048) ⌝ }
     requires { ⌜ Walkable (arcs n steps (now from) (now «in_head») (now «in_next»)) ⌝ }
     requires { ⌜ (n ≤ length (now status)) × (n ≤ length (now successor)) × (n ≤ length (now news)) ⌝ }
     requires { ⌜ (n ≤ length (now queue)) × (n ≤ length (now visited)) ⌝ }
-    ensures { λ r. ⌜ MakesLive n steps u (now (from .entry)) (now («in_head» .entry)) (now («in_next» .entry)) (record { status = now (status .entry); successor = now (successor .entry); news = now (news .entry); visited = now (visited .entry); queue = now (queue .entry) }) (record { status = now (status .exit); successor = now (successor .exit); news = now (news .exit); visited = now (visited .exit); queue = now (queue .exit) }) r ⌝ }
+    ensures { λ r. ⌜ MakesLive n steps state (now (from .entry)) (now («in_head» .entry)) (now («in_next» .entry)) (record { status = now (status .entry); successor = now (successor .entry); news = now (news .entry); visited = now (visited .entry); queue = now (queue .entry) }) (record { status = now (status .exit); successor = now (successor .exit); news = now (news .exit); visited = now (visited .exit); queue = now (queue .exit) }) r ⌝ }
 {
-    if status[u] == LIVE {
+    if status[state] == LIVE {
         return 0;
     }
     let span = spread(
         Mode::Live,
         n,
         steps,
-        u,
+        state,
         from,
         in_head,
         in_next,

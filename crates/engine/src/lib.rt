@@ -1,11 +1,10 @@
 // The update: steps, terminal marks and closes on the caller's tables.
 ghost use mathlib.Core.Path.{_≡_};
-ghost use Prim.Native.Nat.{_≤_};
 ghost use lib.ListN.{length, take};
 ghost use lib.Dec.{leb};
 ghost use mathlib.Core.Bool.{cond};
 ghost use mathlib.Core.List.{[]};
-ghost use Rattle.engine.specs.Done.{tablesOf};
+ghost use Rattle.tables.specs.Tables.{tablesOf};
 ghost use Rattle.engine.specs.Promise.{Promise};
 
 mod accept;
@@ -68,6 +67,7 @@ impl Engine {
         };
         let n = graph.n;
         let limit = graph.limit;
+        let steps = graph.steps;
         let lent = graph.lent(lengths.enough(n, limit));
         if lent != 0 {
             return Updated {
@@ -82,7 +82,6 @@ impl Engine {
                 answer: Answer::Refused(sent),
             };
         }
-        let steps = graph.steps;
         let count = accept::accept(
             update,
             n,
@@ -111,11 +110,11 @@ impl Engine {
 }
 
 // The news: the first `count` entries of the news list, none where `count` is above its length.
-pub fn news_part(news: &mut [u16], count: usize) -> &mut [u16]
+pub fn news_part(news: &[u16], count: usize) -> &[u16]
     ensures { λ r. ⌜ now r ≡ cond (leb count (length (now (news .entry)))) (take count (now (news .entry))) [] ⌝ }
 {
     if count <= news.len() {
-        return &mut news[..count];
+        return &news[..count];
     }
-    &mut news[..0]
+    &news[..0]
 }

@@ -1,15 +1,14 @@
 -- What one update changes of live and dead.
 -- Assumes nothing.
-use mathlib.Core.Path.{_≡_, refl, sym, _∙_, subst}
-use mathlib.Core.Logic.{_⊎_, inl, inr, ⊎-elim}
-use mathlib.Core.Bool.{Bool}
-use mathlib.Core.List.{[], _∷_, List·Memᴰ·head, List·Memᴰ·tail, List·Memᴰ·cases-cons}
+use mathlib.Core.Path.{_≡_, subst}
+use mathlib.Core.Logic.{⊎-elim}
+use mathlib.Core.List.{_∷_, List·Memᴰ·tail, List·Memᴰ·cases-cons}
 use Prim.Native.Nat.{ℕ}
 use Rattle.gid.specs.declared.Update.{Update}
-use Rattle.gid.specs.declared.Update.the-variants.{Step, Terminal, Close}
+use Rattle.gid.specs.declared.Update.the-variants.{Close}
 use Rattle.gid.specs.Updates.{source}
 use Rattle.gid.specs.Histories.{History, Has, IsStep, IsTerminal, IsClosed}
-use Rattle.gid.specs.Verdicts.{Reaches, here, along, Live, DeadByReach}
+use Rattle.gid.specs.Verdicts.{here, DeadByReach}
 use Rattle.gid.specs.Statuses.{isLive, isDead}
 use Rattle.gid.proofs.Decide.{same-test}
 use Rattle.gid.proofs.Paths.{path-within, within-newer, unsplit}

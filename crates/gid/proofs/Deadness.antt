@@ -1,11 +1,11 @@
 -- The two forms of dead are equal on legal histories; verdicts stay under every legal continuation; live and dead by one step at a time.
 -- Assumes nothing.
 use mathlib.Core.Path.{_≡_, refl, sym, subst, _∙_}
-use mathlib.Core.Logic.{_⊎_, inl, inr, ⊎-elim, _↔_}
-use mathlib.Core.List.{List, [], _∷_, _++_, append-assoc, List·Memᴰ, List·Memᴰ·head, List·Memᴰ·tail, List·Memᴰ·cases-cons, Memᴰ·append-right}
+use mathlib.Core.Logic.{⊎-elim, _↔_}
+use mathlib.Core.List.{[], _∷_, _++_, append-assoc, List·Memᴰ·head, List·Memᴰ·tail, List·Memᴰ·cases-cons, Memᴰ·append-right}
 use Prim.Native.Nat.{ℕ}
 use Rattle.gid.specs.declared.Update.{Update}
-use Rattle.gid.specs.declared.Update.the-variants.{Step, Terminal, Close}
+use Rattle.gid.specs.declared.Update.the-variants.{Step, Terminal}
 use Rattle.gid.specs.Updates.{source}
 use Rattle.gid.specs.Histories.{History, Has, IsStep, IsTerminal, IsClosed, Legal, Continues}
 use Rattle.gid.specs.Verdicts.{Reaches, here, along, Live, Dead, DeadByReach}

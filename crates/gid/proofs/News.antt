@@ -1,23 +1,18 @@
 -- The laws of the news: which states it names, and that it names them in rising order.
 -- Assumes nothing.
-use mathlib.Core.Path.{_≡_, refl, sym, _∙_, subst}
-use mathlib.Core.Logic.{_↔_, _⊎_, inl, inr, ⊎-elim}
-use mathlib.Core.Bool.{Bool, true, false, not, cond, _&&_, _||_, false≢true}
+use mathlib.Core.Path.{_≡_, refl}
+use mathlib.Core.Logic.{_↔_, ⊎-elim}
+use mathlib.Core.Bool.{Bool, true, false, not, cond, _&&_}
 use mathlib.Core.List.{List, [], _∷_, _++_, List·Memᴰ, List·Memᴰ·head, List·Memᴰ·tail, List·Memᴰ·not-nil, List·Memᴰ·append-cases, List·Memᴰ·eq-of-singleton, Memᴰ·append-left, Memᴰ·append-right, append-nil}
 use Prim.Native.Nat.{ℕ, zero, suc, _<_, _≤_}
 use native.Mathlib.Omega.{arith}
 use native.Mathlib.Decide.{ℕ-discrete}
 use Rattle.gid.specs.declared.Update.{Update}
 use Rattle.gid.specs.Histories.{History}
-use Rattle.gid.specs.Verdicts.{Live, DeadByReach}
 use Rattle.gid.specs.Statuses.{isLive, isDead}
-use Rattle.gid.specs.News.{settles, below, news, Rising}
+use Rattle.gid.specs.News.{Settles, settles, below, news, Rising}
 use Rattle.gid.proofs.Decide.{Decides, decides-or, decides-and, decides-not}
 use Rattle.gid.proofs.Tests.{decides-live, decides-dead}
-
--- made live, or made dead
-abbrev pub Settles : History → Update → ℕ → Type 0
-Settles h x s = (Live (x ∷ h) s × (Live h s → ⊥)) ⊎ (DeadByReach (x ∷ h) s × (DeadByReach h s → ⊥))
 
 pub decides-settles : (h : History) (x : Update) (s : ℕ) → Decides (settles h x s) (Settles h x s)
 unfolding settles

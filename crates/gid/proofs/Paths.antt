@@ -1,19 +1,13 @@
 -- Paths: how they are put together, how a new update changes them, and that the computed tests decide the statements.
 -- Assumes nothing.
-use mathlib.Core.Path.{_≡_, refl, sym, subst}
+use mathlib.Core.Path.{_≡_, subst}
 use mathlib.Core.Logic.{_⊎_, inl, inr, ⊎-elim}
-use mathlib.Core.Bool.{Bool, true, false, _&&_, _||_, not}
-use mathlib.Core.List.{List, [], _∷_, _++_, List·Memᴰ, List·Memᴰ·head, List·Memᴰ·tail, List·Memᴰ·cases-cons, List·Memᴰ·not-nil, Memᴰ·append-right}
+use mathlib.Core.List.{_∷_, List·Memᴰ·tail, List·Memᴰ·cases-cons}
 use Prim.Native.Nat.{ℕ}
-use native.Mathlib.Omega.{arith}
-use lib.Dec.{eqb}
 use Rattle.gid.specs.declared.Update.{Update}
-use Rattle.gid.specs.declared.Update.the-variants.{Step, Terminal, Close}
-use Rattle.gid.specs.Updates.{source, Mentions}
-use Rattle.gid.specs.Histories.{History, Has, IsStep, IsTerminal, IsClosed, IsNamed}
-use Rattle.gid.specs.Verdicts.{Reaches, here, along, Live, DeadByReach}
-use Rattle.gid.specs.Statuses.{isNamed, isTerminal, isClosed, reaches, reachesMark, isLive, isStuck, reachesStuck, isDead}
-use Rattle.gid.proofs.Decide.{Decides, decided, refuted, decides-iff, decides-eq, decides-false, decides-or, decides-and, decides-not}
+use Rattle.gid.specs.declared.Update.the-variants.{Step}
+use Rattle.gid.specs.Histories.{History, Has, IsStep}
+use Rattle.gid.specs.Verdicts.{Reaches, here, along}
 
 -- every update of h is one of g's
 abbrev pub Within : History → History → Type 0

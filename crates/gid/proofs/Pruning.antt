@@ -3,12 +3,12 @@
 use mathlib.Core.Path.{_≡_, refl, sym, _∙_, subst}
 use mathlib.Core.Logic.{_⊎_, inl, inr, ⊎-elim}
 use mathlib.Core.Bool.{Bool, true, false, not, _&&_, _||_}
-use mathlib.Core.List.{[], _∷_, List·Memᴰ, List·Memᴰ·head, List·Memᴰ·tail, List·Memᴰ·cases-cons, List·Memᴰ·not-nil}
-use Prim.Native.Nat.{ℕ, _<_}
+use mathlib.Core.List.{[], _∷_, List·Memᴰ·head, List·Memᴰ·tail, List·Memᴰ·cases-cons}
+use Prim.Native.Nat.{ℕ}
 use Rattle.gid.specs.declared.Update.{Update}
 use Rattle.gid.specs.declared.Update.the-variants.{Step, Terminal, Close}
 use Rattle.gid.specs.Updates.{source}
-use Rattle.gid.specs.Histories.{History, Has, IsStep, IsTerminal, IsClosed, IsNamed, Legal}
+use Rattle.gid.specs.Histories.{History, Has, IsStep, IsTerminal, IsNamed, Legal}
 use Rattle.gid.specs.Verdicts.{Reaches, here, along, Live, DeadByReach}
 use Rattle.gid.specs.Statuses.{isLive, isDead, isClosed, isNamed, status}
 use Rattle.gid.specs.News.{settles, news}

@@ -1,7 +1,7 @@
 -- The laws of the status: which number stands for which verdict. Nothing else about `status` is needed.
 -- Assumes nothing.
-use mathlib.Core.Path.{_≡_, refl, sym, _∙_}
-use mathlib.Core.Logic.{_↔_, inl, inr}
+use mathlib.Core.Path.{_≡_, refl}
+use mathlib.Core.Logic.{_↔_, inl}
 use mathlib.Core.Bool.{Bool, true, false}
 use mathlib.Core.List.{List·Memᴰ}
 use Prim.Native.Nat.{ℕ}
@@ -10,7 +10,7 @@ use Rattle.gid.specs.declared.Update.the-variants.{Step, Terminal, Close
 use Rattle.gid.specs.Histories.{History, IsClosed, IsNamed, Legal}
 use Rattle.gid.specs.Verdicts.{Reaches, here, along, Live, Dead, DeadByReach}
 use Rattle.gid.specs.Statuses.{isLive, isDead, isClosed, isNamed, status, statusUnseen, statusOpen, statusUnknown, statusLive, statusDead}
-use Rattle.gid.proofs.Decide.{Decides, refuted}
+use Rattle.gid.proofs.Decide.{refuted}
 use Rattle.gid.proofs.Tests.{decides-live, decides-dead, decides-closed, decides-named}
 use Rattle.gid.proofs.Deadness.{dead-closed, dead-not-live, dead-equal}
 

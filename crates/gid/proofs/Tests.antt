@@ -1,19 +1,19 @@
 -- The computed tests of specs/Statuses.antt decide the statements of specs/Histories.antt and specs/Verdicts.antt.
 -- Assumes nothing.
-use mathlib.Core.Path.{_≡_, refl, sym, subst, ap}
+use mathlib.Core.Path.{_≡_, refl, sym, subst}
 use mathlib.Core.Logic.{_⊎_, inl, inr, ⊎-elim}
-use mathlib.Core.Bool.{Bool, true, false, _&&_, _||_, not}
-use mathlib.Core.List.{List, [], _∷_, _++_, List·Memᴰ, List·Memᴰ·head, List·Memᴰ·tail, List·Memᴰ·cases-cons, List·Memᴰ·not-nil}
+use mathlib.Core.Bool.{Bool, _&&_, _||_, not}
+use mathlib.Core.List.{[], _∷_, List·Memᴰ·head, List·Memᴰ·tail, List·Memᴰ·cases-cons, List·Memᴰ·not-nil}
 use Prim.Native.Nat.{ℕ}
 use native.Mathlib.Omega.{arith}
 use lib.Dec.{eqb}
 use Rattle.gid.specs.declared.Update.{Update}
 use Rattle.gid.specs.declared.Update.the-variants.{Step, Terminal, Close}
-use Rattle.gid.specs.Updates.{source, Mentions}
+use Rattle.gid.specs.Updates.{Mentions}
 use Rattle.gid.specs.Histories.{History, Has, IsStep, IsTerminal, IsClosed, IsNamed}
 use Rattle.gid.specs.Verdicts.{Reaches, here, along, Live, DeadByReach}
 use Rattle.gid.specs.Statuses.{isNamed, isTerminal, isClosed, reaches, reachesMark, isLive, isStuck, reachesStuck, isDead}
-use Rattle.gid.proofs.Decide.{Decides, decided, refuted, refutes, decides-iff, decides-eq, decides-false, decides-or, decides-and, decides-not}
+use Rattle.gid.proofs.Decide.{Decides, decided, decides-iff, decides-eq, decides-false, decides-or, decides-and, decides-not}
 use Rattle.gid.proofs.Paths.{path-within, within-newer, join, split, unsplit}
 
 -- no update is of two kinds

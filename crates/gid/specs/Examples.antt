@@ -9,7 +9,7 @@ use Rattle.gid.specs.Outcomes.{Outcome, refused, accepted, outcome, afte
 
 -- What is seen of a case: the outcome of its last update, and the statuses of the states 0, 1 and 2 after it.
 pub record Seen : Type 0 where
-  pub outcome : Outcome
+  pub outcome : Outcome (List ℕ)
   pub statuses : List ℕ
 
 -- A case: the step limit, the updates sent in order, the last of them, and what must be seen. "Tables are fresh, with n = 3 and limit 4 unless said."
@@ -25,7 +25,7 @@ seen c =
     let g = after 3 (c .limit) h (c .last) in
     record { outcome = outcome 3 (c .limit) h (c .last); statuses = status g 0 ∷ status g 1 ∷ status g 2 ∷ [] }
 
-abbrev at : ℕ → List Update → Update → Outcome → List ℕ → Case
+abbrev at : ℕ → List Update → Update → Outcome (List ℕ) → List ℕ → Case
 at limit before last o s = record { limit = limit; before = before; last = last; expected = record { outcome = o; statuses = s } }
 
 unfoldable pub cases : List Case
@@ -38,7 +38,11 @@ cases =
     at 4 (Step 0 1 ∷ Step 1 0 ∷ []) (Close 0) (accepted []) (2 ∷ 1 ∷ 0 ∷ []) ∷
     -- 4. Then C 1: news 0 and 1, dead.
     at 4 (Step 0 1 ∷ Step 1 0 ∷ Close 0 ∷ []) (Close 1) (accepted (0 ∷ 1 ∷ [])) (4 ∷ 4 ∷ 0 ∷ []) ∷
-    -- 5. E 0 1, E 1 0, E 1 2, C 0, C 1: no news, status 2, 2, 1.
+    -- 5. E 0 1, E 1 0, E 1 2, C 0, C 1: no news, status 2, 2, 1. No update of the five has news.
+    at 4 [] (Step 0 1) (accepted []) (1 ∷ 1 ∷ 0 ∷ []) ∷
+    at 4 (Step 0 1 ∷ []) (Step 1 0) (accepted []) (1 ∷ 1 ∷ 0 ∷ []) ∷
+    at 4 (Step 0 1 ∷ Step 1 0 ∷ []) (Step 1 2) (accepted []) (1 ∷ 1 ∷ 1 ∷ []) ∷
+    at 4 (Step 0 1 ∷ Step 1 0 ∷ Step 1 2 ∷ []) (Close 0) (accepted []) (2 ∷ 1 ∷ 1 ∷ []) ∷
     at 4 (Step 0 1 ∷ Step 1 0 ∷ Step 1 2 ∷ Close 0 ∷ []) (Close 1) (accepted []) (2 ∷ 2 ∷ 1 ∷ []) ∷
     -- 6. Case 5, then C 2: news 0, 1, 2, dead.
     at 4 (Step 0 1 ∷ Step 1 0 ∷ Step 1 2 ∷ Close 0 ∷ Close 1 ∷ []) (Close 2) (accepted (0 ∷ 1 ∷ 2 ∷ [])) (4 ∷ 4 ∷ 4 ∷ []) ∷

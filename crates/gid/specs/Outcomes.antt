@@ -2,7 +2,7 @@
 -- Assumes nothing.
 use mathlib.Core.Bool.{true}
 use mathlib.Core.List.{List, [], _∷_}
-use mathlib.Core.Option.{some, none}
+use mathlib.Core.Option.{Option, some, none}
 use Prim.Native.Nat.{ℕ, suc}
 use Rattle.gid.specs.declared.Update.{Update}
 use Rattle.gid.specs.declared.Update.the-variants.{Step, Terminal, Close}
@@ -11,10 +11,15 @@ use Rattle.gid.specs.Statuses.{isClosed, isDead}
 use Rattle.gid.specs.News.{news}
 use Rattle.gid.specs.Refusals.{Given, refusal}
 
--- What comes of an update: it is refused with a number, or accepted with its news.
-pub data Outcome : Type 0 where
-  refused : ℕ → Outcome
-  accepted : List ℕ → Outcome
+-- What comes of a call: it is refused with a number, or accepted, with what it gives. An update gives its news.
+pub data Outcome (A : Type 0) : Type 0 where
+  refused : ℕ → Outcome A
+  accepted : A → Outcome A
+
+-- By the number of the first test that applies, if one does.
+abbrev pub byNumber : {A : Type 0} → Option ℕ → A → Outcome A
+byNumber none a = accepted a
+byNumber (some k) a = refused k
 
 abbrev pub countSteps : History → ℕ
 countSteps [] = 0
@@ -23,15 +28,15 @@ countSteps (Terminal u ∷ h) = countSteps h
 countSteps (Close u ∷ h) = countSteps h
 
 -- What the tables say after a history, with tables that are long enough.
-unfoldable pub given : ℕ → ℕ → History → Given
-given n limit h = record { n = n; limit = limit; steps = countSteps h; long = true; closed = isClosed h; dead = isDead h }
+unfoldable pub givenAfter : ℕ → ℕ → History → Given
+givenAfter n limit h = record { n = n; limit = limit; steps = countSteps h; long = true; closed = isClosed h; dead = isDead h }
 
 -- The outcome of an update after a history, and the history after it.
-unfoldable pub outcome : ℕ → ℕ → History → Update → Outcome
-outcome n limit h x = elim (refusal (given n limit h) x) [ none ↦ accepted (news n h x) | some k ↦ refused k ]
+unfoldable pub outcome : ℕ → ℕ → History → Update → Outcome (List ℕ)
+outcome n limit h x = byNumber (refusal (givenAfter n limit h) x) (news n h x)
 
 unfoldable pub after : ℕ → ℕ → History → Update → History
-after n limit h x = elim (refusal (given n limit h) x) [ none ↦ x ∷ h | some k ↦ h ]
+after n limit h x = elim (refusal (givenAfter n limit h) x) [ none ↦ x ∷ h | some k ↦ h ]
 
 unfoldable pub afterAll : ℕ → ℕ → History → List Update → History
 afterAll n limit h [] = h

@@ -5,7 +5,7 @@ use mathlib.Core.List.{[], _∷_}
 use Prim.Native.Nat.{ℕ}
 use Rattle.gid.specs.declared.Update.{Update}
 use Rattle.gid.specs.Updates.{source}
-use Rattle.gid.specs.Histories.{History, IsNamed, Legal}
+use Rattle.gid.specs.Histories.{History, IsNamed}
 use Rattle.gid.specs.Verdicts.{Live}
 use Rattle.gid.specs.Statuses.{status}
 use Rattle.gid.specs.News.{news}

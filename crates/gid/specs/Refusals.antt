@@ -1,9 +1,9 @@
 -- The numbers 1 to 9: which updates are refused. Document 01, "Numbers by who causes them": "Tests run in rising order and the first that applies is given."
 -- Assumes nothing.
-use mathlib.Core.Bool.{Bool, true, false, not, cond, _||_}
+use mathlib.Core.Bool.{Bool, not, cond, _||_}
 use mathlib.Core.List.{List, [], _∷_, _++_}
 use mathlib.Core.Option.{Option, some, none}
-use Prim.Native.Nat.{ℕ, zero, suc}
+use Prim.Native.Nat.{ℕ}
 use lib.Dec.{leb, ltb, eqb}
 use Rattle.gid.specs.declared.Update.{Update}
 use Rattle.gid.specs.declared.Update.the-variants.{Step, Terminal, Close}

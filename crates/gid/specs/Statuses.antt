@@ -1,6 +1,6 @@
 -- The status of a state after a history, 0 to 4, computed on the whole history afresh. proofs/Statuses.antt has the laws that say which status stands for which verdict: they are all that a user of it needs.
 -- Assumes nothing.
-use mathlib.Core.Bool.{Bool, true, false, not, cond, _&&_, _||_}
+use mathlib.Core.Bool.{Bool, false, not, cond, _&&_, _||_}
 use mathlib.Core.List.{[], _∷_}
 use Prim.Native.Nat.{ℕ}
 use lib.Dec.{eqb}

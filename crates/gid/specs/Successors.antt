@@ -1,7 +1,7 @@
 -- The successor rule: why an unknown state is not dead yet. Document 01, "Verdict rules"; document 000, section 3.
 -- Assumes nothing.
 use mathlib.Core.Path.{_≡_}
-use Prim.Native.Nat.{ℕ, zero, suc, _-_, _<_, _≤_}
+use Prim.Native.Nat.{ℕ, suc, _-_, _<_, _≤_}
 use Rattle.gid.specs.Statuses.{statusOpen, statusUnknown}
 
 -- The entry of a state that has no successor: "For every other state the entry is 65,535."

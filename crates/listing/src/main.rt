@@ -1,43 +1,48 @@
-// The listing program: reads a record on standard input in large pieces, and writes its listing to standard output when the buffer is short of room and at the end.
+// The listing program: reads a record on standard input, and writes its listing to standard output. What is read and written next, and when it is over, the library decides.
 ghost use mathlib.Core.Path.{_≡_};
-ghost use Prim.Native.Nat.{_≤_, _+_};
+ghost use mathlib.Core.Bool.{true};
+ghost use mathlib.Core.Option.{none};
+ghost use Prim.Native.Nat.{_≤_};
 ghost use lib.ListN.{length};
-use engine::Engine;
-use libc::STDIN_FILENO;
-use libc::STDOUT_FILENO;
-use reader::Opened;
-use reader::Reader;
-use record::Splitter;
+ghost use Rattle.tables.specs.Tables.{tablesOf};
+ghost use Rattle.reader.specs.Opening.{openRefusal};
+ghost use Rattle.reader.specs.Reading.{recordLimit};
+ghost use Rattle.report.specs.Lister.{listerRoom};
+ghost use Rattle.listing.specs.Ending.{EndsListing};
+use reader::RECORD_LIMIT;
+use report::Lister;
+use streams::Served;
+use tables::MAX_STATES;
 
-// "The listing program and the C call use limit 2,048."
-const LIMIT: usize = 2048;
+// The bytes of the input that are read at once, and those of the output that are written at once.
+const INPUT: usize = 65536;
 
-// The room in the buffer below which it is written out: a line's text and the totals take less.
-const ROOM: usize = 40960;
+const OUTPUT: usize = 131072;
 
-// The reader after a piece of the input, and the place after what stands in the buffer.
-struct Progress {
-    reader: Reader,
-    end: usize,
+// Where a listing ended, and whether its last text was written.
+struct ListingEnd {
+    lister: Lister,
+    over: bool,
 }
 
 fn main() {
-    let mut status = [0u8; 2048];
-    let mut marks = [0u8; 2048];
-    let mut from = [0u16; 2048];
-    let mut to = [0u16; 2048];
-    let mut successor = [0u16; 2048];
-    let mut news = [0u16; 2048];
-    let mut in_head = [0u16; 2048];
-    let mut out_head = [0u16; 2048];
-    let mut queue = [0u16; 2048];
-    let mut visited = [0u16; 2048];
-    let mut in_next = [0u16; 2048];
-    let mut out_next = [0u16; 2048];
-    let mut input = [0u8; 65536];
-    let mut output = [0u8; 131072];
-    let opened = reader::open(
-        LIMIT,
+    let mut status = [0u8; MAX_STATES];
+    let mut marks = [0u8; MAX_STATES];
+    let mut from = [0u16; RECORD_LIMIT];
+    let mut to = [0u16; RECORD_LIMIT];
+    let mut successor = [0u16; MAX_STATES];
+    let mut news = [0u16; MAX_STATES];
+    let mut in_head = [0u16; MAX_STATES];
+    let mut out_head = [0u16; MAX_STATES];
+    let mut queue = [0u16; MAX_STATES];
+    let mut visited = [0u16; MAX_STATES];
+    let mut in_next = [0u16; RECORD_LIMIT];
+    let mut out_next = [0u16; RECORD_LIMIT];
+    let mut input = [0u8; INPUT];
+    let mut output = [0u8; OUTPUT];
+    list_input(
+        &mut input,
+        &mut output,
         &mut status,
         &mut marks,
         &mut from,
@@ -51,31 +56,10 @@ fn main() {
         &mut in_next,
         &mut out_next,
     );
-    match opened {
-        Opened::Ready(engine) => list_input(
-            engine,
-            &mut input,
-            &mut output,
-            &mut status,
-            &mut marks,
-            &mut from,
-            &mut to,
-            &mut successor,
-            &mut news,
-            &mut in_head,
-            &mut out_head,
-            &mut queue,
-            &mut visited,
-            &mut in_next,
-            &mut out_next,
-        ),
-        Opened::Refused(_) => {}
-    }
 }
 
-// Nothing says that an input ends, so the pieces are counted down, from a number that no run uses up.
+// Nothing says that an input ends, so the turns are counted down, from a number that no run uses up.
 fn list_input(
-    engine: Engine,
     input: &mut [u8],
     output: &mut [u8],
     status: &mut [u8],
@@ -90,48 +74,12 @@ fn list_input(
     visited: &mut [u16],
     in_next: &mut [u16],
     out_next: &mut [u16],
-)
-    requires { ⌜ 65536 ≤ length (now output) ⌝ }
+) -> ListingEnd
+    requires { ⌜ (listerRoom ≤ length (now output)) × (openRefusal recordLimit ((tablesOf (now status) (now marks) (now from) (now to) (now successor) (now news) (now «in_head») (now «out_head») (now queue) (now visited) (now «in_next») (now «out_next»))) ≡ none) ⌝ }
+    ensures { λ r. ⌜ EndsListing r (now (output .exit)) ((tablesOf (now (status .exit)) (now (marks .exit)) (now (from .exit)) (now (to .exit)) (now (successor .exit)) (now (news .exit)) (now («in_head» .exit)) (now («out_head» .exit)) (now (queue .exit)) (now (visited .exit)) (now («in_next» .exit)) (now («out_next» .exit)))) ⌝ }
 {
-    let mut end = report::put_header(output, 0);
-    let mut reader = Reader {
-        splitter: Splitter::start(),
-        engine,
-    };
-    let mut pieces = u64::MAX;
-    while pieces > 0 {
-        let got = libc::read(STDIN_FILENO, input);
-        if got <= 0 {
-            break;
-        }
-        let n = io::count(got, input);
-        let progress = list_piece(
-            reader,
-            &input[..n],
-            output,
-            end,
-            status,
-            marks,
-            from,
-            to,
-            successor,
-            news,
-            in_head,
-            out_head,
-            queue,
-            visited,
-            in_next,
-            out_next,
-        );
-        reader = progress.reader;
-        end = progress.end;
-        pieces -= 1;
-    }
-    let at = with_room(output, end);
-    let last = report::list_end(
-        reader,
+    let mut lister = report::begin(
         output,
-        at,
         status,
         marks,
         from,
@@ -145,42 +93,22 @@ fn list_input(
         in_next,
         out_next,
     );
-    io::write_all(STDOUT_FILENO, &output[..last]);
-}
-
-// Lists a piece of the input.
-fn list_piece(
-    reader: Reader,
-    piece: &[u8],
-    output: &mut [u8],
-    end: usize,
-    status: &mut [u8],
-    marks: &mut [u8],
-    from: &mut [u16],
-    to: &mut [u16],
-    successor: &mut [u16],
-    news: &mut [u16],
-    in_head: &mut [u16],
-    out_head: &mut [u16],
-    queue: &mut [u16],
-    visited: &mut [u16],
-    in_next: &mut [u16],
-    out_next: &mut [u16],
-) -> Progress
-    requires { ⌜ (end ≤ length (now output)) × (65536 ≤ length (now output)) ⌝ }
-    ensures { λ r. ⌜ r .end ≤ length (now (output .entry)) ⌝ }
-{
-    let mut current = reader;
-    let mut next = 0;
-    let mut after = end;
-    while next < piece.len() {
-        let at = with_room(output, after);
-        let listed = report::list_part(
-            current,
-            piece,
-            next,
+    let mut count = 0;
+    let mut turns = u64::MAX;
+    while turns > 0 {
+        let task = lister.task;
+        let end = lister.end;
+        let served = streams::serve(b"listing", task, end, count, input, output);
+        let Served::Piece(len) = served else {
+            return ListingEnd {
+                lister,
+                over: served.is_over(),
+            };
+        };
+        let next = report::list(
+            lister,
+            &input[..len],
             output,
-            at,
             status,
             marks,
             from,
@@ -194,24 +122,12 @@ fn list_piece(
             in_next,
             out_next,
         );
-        current = listed.reader;
-        next = listed.next;
-        after = listed.end;
+        lister = next;
+        count = len;
+        turns -= 1;
     }
-    Progress {
-        reader: current,
-        end: after,
+    ListingEnd {
+        lister,
+        over: false,
     }
-}
-
-// Where the buffer is short of room, writes out what stands in it, and starts it anew.
-fn with_room(output: &[u8], end: usize) -> usize
-    requires { ⌜ (end ≤ length (now output)) × (65536 ≤ length (now output)) ⌝ }
-    ensures { λ r. ⌜ r + 40960 ≤ length (now (output .entry)) ⌝ }
-{
-    if output.len() - end < ROOM {
-        io::write_all(STDOUT_FILENO, &output[..end]);
-        return 0;
-    }
-    end
 }

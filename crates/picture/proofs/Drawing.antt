@@ -8,7 +8,7 @@ use native.Mathlib.Numerals.{add-one}
 use lib.Dec.{eqb}
 use lib.ListN.{length, getD}
 use Rattle.record.specs.Text.{decimal, WroteAt}
-use Rattle.report.proofs.Placing.{placed-none, placed-on}
+use Rattle.record.proofs.Placing.{placed-none, placed-on}
 use Rattle.picture.specs.Picture.{opening, closing, indent, line, stateText, statesText, stepText, stepsText, drawing}
 
 -- what stands in a list does not depend on what is read past its end

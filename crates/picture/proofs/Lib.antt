@@ -1,4 +1,5 @@
 -- The laws of the picture.
 pub mod Drawing
 pub mod Saying
+pub mod Tasks
 pub mod Session

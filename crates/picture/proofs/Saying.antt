@@ -4,18 +4,23 @@ use mathlib.Core.Path.{_≡_, refl, sym, _∙_, ap, subst}
 use mathlib.Core.List.{List}
 use Prim.Native.Nat.{ℕ, zero, suc, _<_}
 use native.Mathlib.Omega.{arith}
-use lib.ListN.{getD}
+use lib.ListN.{length, getD}
 use lib.Seq.{getD-take}
+use borrow.Author.Tests.{le-ltb}
+use Rattle.gid.specs.Refusals.{maxSteps}
 use Rattle.gid.specs.Histories.{History}
 use Rattle.gid.specs.Statuses.{status, statusOpen, statusUnknown}
 use Rattle.gid.specs.Successors.{noSuccessor, Chain, ends, follows, Having, SuccessorRule}
 use Rattle.tables.specs.declared.Graph.{Graph}
 use Rattle.tables.specs.Tables.{Tables}
 use Rattle.tables.specs.Fitting.{sources, targets}
+use Rattle.reader.specs.Opening.{readerStates}
 use Rattle.reader.specs.Standing.{Standing}
-use Rattle.reader.proofs.Lines.{standing-room}
+use Rattle.reader.specs.Reading.{recordLimit}
+use Rattle.tables.proofs.Sizes.{long-enough}
 use Rattle.picture.specs.Picture.{statesText, stepsText, drawing, picture}
-use Rattle.picture.specs.Reading.{Shows}
+use Rattle.picture.specs.Drawer.{drawnSteps}
+use Rattle.picture.specs.Progress.{Shows}
 use Rattle.picture.proofs.Drawing.{read-same}
 
 -- statuses and steps that agree are drawn the same
@@ -57,11 +62,11 @@ rule-same n m {f} {f′} {from} {from′} {to} {to′} {successor} {successor′
     next : (s : ℕ) → Having n f statusUnknown s → to (successor s) ≡ to′ (successor′ s)
     next s x = b (successor s) (r .listed s x .0) ∙ ap to′ (q s (x .0))
 
-module _ {h : History} {g : Graph} {t : Tables} (s : Standing 2048 h g t) where
+module _ {h : History} {g : Graph} {t : Tables} (s : Standing recordLimit h g t) where
   abbrev picks : ℕ → ℕ
   picks x = getD (t .successor) x noSuccessor
 
-  statuses : (x : ℕ) → x < 2048 → getD (t .status) x 0 ≡ status h x
+  statuses : (x : ℕ) → x < readerStates → getD (t .status) x 0 ≡ status h x
   statuses x z = s .fits .status x (omega (arith, s .states))
 
   froms : (p : ℕ) → p < g .steps → getD (t .from) p 0 ≡ getD (sources h) p 0
@@ -70,16 +75,22 @@ module _ {h : History} {g : Graph} {t : Tables} (s : Standing 2048 h g t) where
   tos : (p : ℕ) → p < g .steps → getD (t .to) p 0 ≡ getD (targets h) p 0
   tos p z = sym (getD-take (g .steps) (t .to) p 0 z) ∙ ap (λ (l : List ℕ). getD l p 0) (s .fits .to)
 
+  -- every step is drawn
+  all-drawn : drawnSteps (g .steps) (length (t .from)) (length (t .to)) ≡ g .steps
+  all-drawn =
+      let l = long-enough readerStates recordLimit t (s .long) .1 in
+      rw (le-ltb maxSteps (g .steps) (omega (arith, s .room)), le-ltb (length (t .from)) (g .steps) (omega (arith, s .room, l .from)), le-ltb (length (t .to)) (g .steps) (omega (arith, s .room, l .to)))
+
   -- The picture of the tables is the picture of the history.
-  pub picture-says : Shows h (picture (g .steps) (t .status) (t .from) (t .to) (t .successor))
+  pub picture-says : Shows h (picture (drawnSteps (g .steps) (length (t .from)) (length (t .to))) (t .status) (t .from) (t .to) (t .successor))
   unfolding drawing
   picture-says =
       record {
         successor = picks;
         rule =
-            subst (λ (m : ℕ). SuccessorRule 2048 m (status h) (λ p. getD (sources h) p 0) (λ p. getD (targets h) p 0) picks) (s .fits .steps)
-            (rule-same 2048 (g .steps) statuses froms tos (λ x z. read-same (t .successor) x 0 noSuccessor (omega (arith, standing-room s .successor, s .states)))
+            subst (λ (m : ℕ). SuccessorRule readerStates m (status h) (λ p. getD (sources h) p 0) (λ p. getD (targets h) p 0) picks) (s .fits .steps)
+            (rule-same readerStates (g .steps) statuses froms tos (λ x z. read-same (t .successor) x 0 noSuccessor (omega (arith, long-enough readerStates recordLimit t (s .long) .1 .successor)))
             (subst (λ (n : ℕ). SuccessorRule n (g .steps) (λ x. getD (t .status) x 0) (λ p. getD (t .from) p 0) (λ p. getD (t .to) p 0) (λ x. getD (t .successor) x 0)) (s .states) (s .fits .successor)));
         bytes =
-            rw (states-same 2048 (λ x. getD (t .status) x 0) (status h) statuses, steps-same (g .steps) (λ p. getD (t .from) p 0) (λ p. getD (t .to) p 0) (λ p. getD (sources h) p 0) (λ p. getD (targets h) p 0) picks froms tos, s .fits .steps) refl;
+            rw (all-drawn, states-same readerStates (λ x. getD (t .status) x 0) (status h) statuses, steps-same (g .steps) (λ p. getD (t .from) p 0) (λ p. getD (t .to) p 0) (λ p. getD (sources h) p 0) (λ p. getD (targets h) p 0) picks froms tos, s .fits .steps) refl;
       }

@@ -5,6 +5,7 @@ use mathlib.Core.List.{List, [], _∷_, _++_}
 use Prim.Native.Nat.{ℕ, zero, suc}
 use lib.Dec.{eqb}
 use lib.ListN.{getD}
+use Rattle.gid.specs.Refusals.{maxStates}
 use Rattle.gid.specs.Statuses.{statusOpen, statusUnknown, statusLive, statusDead}
 use Rattle.gid.specs.Successors.{noSuccessor}
 use Rattle.record.specs.Text.{decimal}
@@ -82,7 +83,7 @@ stepsText (suc p) from to successor = stepsText p from to successor ++ stepText 
 
 -- The picture of 2,048 states and m steps.
 unfoldable pub drawing : ℕ → (status from to successor : ℕ → ℕ) → List ℕ
-drawing m status from to successor = opening ++ statesText 2048 status ++ stepsText m from to successor ++ closing
+drawing m status from to successor = opening ++ statesText maxStates status ++ stepsText m from to successor ++ closing
 
 -- Read from tables, with any contents. A state past the end of its table is unseen, and has no successor.
 abbrev pub picture : ℕ → (status from to successor : List ℕ) → List ℕ

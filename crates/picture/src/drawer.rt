@@ -1,64 +1,31 @@
-// The picture of a record that comes in parts: the lines are read part by part, and the picture of where they end is written into a lent buffer.
+// A drawing under way: the library decides what is read, when it is over and what is written, and a program hands the bytes on.
 ghost use mathlib.Core.Path.{_≡_};
-ghost use mathlib.Core.List.{List, []};
-ghost use Prim.Native.Nat.{ℕ, _≤_, _+_};
+ghost use Prim.Native.Nat.{_≤_};
 ghost use lib.ListN.{length};
-ghost use Rattle.engine.specs.Done.{tablesOf};
+ghost use Rattle.tables.specs.Tables.{tablesOf};
 ghost use Rattle.picture.specs.Picture.{pictureRoom};
-ghost use Rattle.picture.specs.Reading.{Stands, Reads, Draws};
+ghost use Rattle.picture.specs.Drawer.{drawnSteps, BeginsDrawing, Draws, AfterPiece, PutsPicture};
+use crate::text::PICTURE_ROOM;
 use crate::text::put_picture;
+use engine::Engine;
+use reader::Opened;
+use reader::RECORD_LIMIT;
 use reader::Reader;
+use reader::Task;
+use reader::Until;
+use reader::piece_or;
+use tables::Graph;
+use tables::MAX_STEPS;
 
-// Reads the lines of a part. A line that it ends in is read on with the next part.
-pub fn read_part(
-    reader: Reader,
-    part: &[u8],
-    status: &mut [u8],
-    marks: &mut [u8],
-    from: &mut [u16],
-    to: &mut [u16],
-    successor: &mut [u16],
-    news: &mut [u16],
-    in_head: &mut [u16],
-    out_head: &mut [u16],
-    queue: &mut [u16],
-    visited: &mut [u16],
-    in_next: &mut [u16],
-    out_next: &mut [u16],
-) -> Reader
-    ensures { λ r. ⌜ Reads (reader .splitter) (now (part .entry)) (reader .engine .graph) (tablesOf (now (status .entry)) (now (marks .entry)) (now (from .entry)) (now (to .entry)) (now (successor .entry)) (now (news .entry)) (now («in_head» .entry)) (now («out_head» .entry)) (now (queue .entry)) (now (visited .entry)) (now («in_next» .entry)) (now («out_next» .entry))) (r .splitter) [] (r .engine .graph) (tablesOf (now (status .exit)) (now (marks .exit)) (now (from .exit)) (now (to .exit)) (now (successor .exit)) (now (news .exit)) (now («in_head» .exit)) (now («out_head» .exit)) (now (queue .exit)) (now (visited .exit)) (now («in_next» .exit)) (now («out_next» .exit))) ⌝ }
-{
-    let mut current = reader;
-    let mut next = 0;
-    while next < part.len() {
-        let turn = current.turn(
-            part,
-            next,
-            status,
-            marks,
-            from,
-            to,
-            successor,
-            news,
-            in_head,
-            out_head,
-            queue,
-            visited,
-            in_next,
-            out_next,
-        );
-        let after = turn.reader;
-        current = after;
-        next = turn.next;
-    }
-    current
+// Where a drawing stands: the reader, the place after the text in the output, and what the caller is to do.
+pub struct Drawer {
+    pub reader: Reader,
+    pub end: usize,
+    pub task: Task,
 }
 
-// The end of the record, whose last line may lack a newline, and its picture. Returns the place after it.
-pub fn draw_end(
-    reader: Reader,
-    buf: &mut [u8],
-    at: usize,
+// Opens the tables for a drawing, with the limit that it has. Tables that are too short draw nothing.
+pub fn begin(
     status: &mut [u8],
     marks: &mut [u8],
     from: &mut [u16],
@@ -71,11 +38,11 @@ pub fn draw_end(
     visited: &mut [u16],
     in_next: &mut [u16],
     out_next: &mut [u16],
-) -> usize
-    requires { ⌜ (at + pictureRoom ≤ length (now buf)) × Stands (reader .engine .graph) (tablesOf (now status) (now marks) (now from) (now to) (now successor) (now news) (now «in_head») (now «out_head») (now queue) (now visited) (now «in_next») (now «out_next»)) ⌝ }
-    ensures { λ r. ⌜ Draws (reader .splitter) (reader .engine .graph) (tablesOf (now (status .entry)) (now (marks .entry)) (now (from .entry)) (now (to .entry)) (now (successor .entry)) (now (news .entry)) (now («in_head» .entry)) (now («out_head» .entry)) (now (queue .entry)) (now (visited .entry)) (now («in_next» .entry)) (now («out_next» .entry))) at (now (buf .entry)) (now (buf .exit)) r ⌝ }
+) -> Drawer
+    ensures { λ r. ⌜ BeginsDrawing ((tablesOf (now (status .entry)) (now (marks .entry)) (now (from .entry)) (now (to .entry)) (now (successor .entry)) (now (news .entry)) (now («in_head» .entry)) (now («out_head» .entry)) (now (queue .entry)) (now (visited .entry)) (now («in_next» .entry)) (now («out_next» .entry)))) r ((tablesOf (now (status .exit)) (now (marks .exit)) (now (from .exit)) (now (to .exit)) (now (successor .exit)) (now (news .exit)) (now («in_head» .exit)) (now («out_head» .exit)) (now (queue .exit)) (now (visited .exit)) (now («in_next» .exit)) (now («out_next» .exit)))) ⌝ }
 {
-    let applied = reader.finish(
+    let opened = reader::open(
+        RECORD_LIMIT,
         status,
         marks,
         from,
@@ -89,8 +56,139 @@ pub fn draw_end(
         in_next,
         out_next,
     );
-    let engine = applied.engine;
+    match opened {
+        Opened::Refused(_) => Drawer {
+            reader: Reader::start(Engine {
+                graph: Graph {
+                    n: 0,
+                    limit: 0,
+                    steps: 0,
+                },
+            }),
+            end: 0,
+            task: Task::End,
+        },
+        Opened::Ready(engine) => Drawer {
+            reader: Reader::start(engine),
+            end: 0,
+            task: Task::Read,
+        },
+    }
+}
+
+// Reads the lines of a piece of the input and, where the input has ended or reading has stopped, draws. An output that is too short gets nothing.
+pub fn draw(
+    drawer: Drawer,
+    piece: &[u8],
+    output: &mut [u8],
+    status: &mut [u8],
+    marks: &mut [u8],
+    from: &mut [u16],
+    to: &mut [u16],
+    successor: &mut [u16],
+    news: &mut [u16],
+    in_head: &mut [u16],
+    out_head: &mut [u16],
+    queue: &mut [u16],
+    visited: &mut [u16],
+    in_next: &mut [u16],
+    out_next: &mut [u16],
+) -> Drawer
+    ensures { λ r. ⌜ Draws drawer (now (piece .entry)) (now (output .entry)) ((tablesOf (now (status .entry)) (now (marks .entry)) (now (from .entry)) (now (to .entry)) (now (successor .entry)) (now (news .entry)) (now («in_head» .entry)) (now («out_head» .entry)) (now (queue .entry)) (now (visited .entry)) (now («in_next» .entry)) (now («out_next» .entry)))) r (now (output .exit)) ((tablesOf (now (status .exit)) (now (marks .exit)) (now (from .exit)) (now (to .exit)) (now (successor .exit)) (now (news .exit)) (now («in_head» .exit)) (now («out_head» .exit)) (now (queue .exit)) (now (visited .exit)) (now («in_next» .exit)) (now («out_next» .exit)))) ⌝ }
+{
+    let reader = drawer.reader;
+    if output.len() < PICTURE_ROOM {
+        return Drawer {
+            reader,
+            end: 0,
+            task: Task::End,
+        };
+    }
+    let splitter = reader.splitter;
+    let newline: &[u8] = b"\n";
+    let lacking = splitter.lacking();
+    let part = piece_or(piece, &newline[..lacking]);
+    let turn = reader.advance(
+        part,
+        0,
+        Until::End,
+        status,
+        marks,
+        from,
+        to,
+        successor,
+        news,
+        in_head,
+        out_head,
+        queue,
+        visited,
+        in_next,
+        out_next,
+    );
+    let after = turn.reader;
+    finish(after, piece.len(), output, status, from, to, successor)
+}
+
+// What is to be done after a piece of `given` bytes.
+fn finish(
+    reader: Reader,
+    given: usize,
+    output: &mut [u8],
+    status: &[u8],
+    from: &[u16],
+    to: &[u16],
+    successor: &[u16],
+) -> Drawer
+    requires { ⌜ pictureRoom ≤ length (now output) ⌝ }
+    ensures { λ r. ⌜ AfterPiece reader given (now (status .entry)) (now (from .entry)) (now (to .entry)) (now (successor .entry)) (now (output .entry)) r (now (output .exit)) ⌝ }
+{
+    if 0 < given {
+        if reader.is_over() {
+            return close(reader, output, status, from, to, successor);
+        }
+        return Drawer {
+            reader,
+            end: 0,
+            task: Task::Read,
+        };
+    }
+    close(reader, output, status, from, to, successor)
+}
+
+fn close(
+    reader: Reader,
+    output: &mut [u8],
+    status: &[u8],
+    from: &[u16],
+    to: &[u16],
+    successor: &[u16],
+) -> Drawer
+    requires { ⌜ pictureRoom ≤ length (now output) ⌝ }
+    ensures { λ r. ⌜ PutsPicture reader (now (status .entry)) (now (from .entry)) (now (to .entry)) (now (successor .entry)) (now (output .entry)) r (now (output .exit)) ⌝ }
+{
+    let engine = reader.engine;
     let graph = engine.graph;
-    let m = graph.steps;
-    put_picture(buf, at, m, status, from, to, successor)
+    let m = drawn_steps(graph.steps, from.len(), to.len());
+    let end = put_picture(output, 0, m, status, from, to, successor);
+    Drawer {
+        reader,
+        end,
+        task: Task::End,
+    }
+}
+
+// How many steps are drawn: those counted, where the tables have so many.
+fn drawn_steps(steps: usize, from: usize, to: usize) -> usize
+    ensures { λ r. ⌜ r ≡ drawnSteps steps from to ⌝ }
+{
+    if MAX_STEPS < steps {
+        return 0;
+    }
+    if from < steps {
+        return 0;
+    }
+    if to < steps {
+        return 0;
+    }
+    steps
 }

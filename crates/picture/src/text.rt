@@ -5,11 +5,15 @@ ghost use lib.ListN.{length, getD};
 ghost use Rattle.gid.specs.Successors.{noSuccessor};
 ghost use Rattle.record.specs.Text.{WroteAt};
 ghost use Rattle.picture.specs.Picture.{line, node, stateText, statesText, stepText, stepsText, picture, pictureRoom};
-use report::put_bytes_at;
-use report::put_number_at;
-use report::status_of;
+use record::put_bytes_at;
+use record::put_number_at;
+use tables::DEAD;
+use tables::LIVE;
 use tables::MAX_STATES;
 use tables::NO_SUCCESSOR;
+use tables::OPEN;
+use tables::UNKNOWN;
+use tables::status_of;
 
 // The room that is to be left in the buffer for a picture.
 pub const PICTURE_ROOM: usize = 393216;
@@ -57,10 +61,10 @@ fn put_state(buf: &mut [u8], at: usize, state: usize, status: u8) -> usize
     ensures { λ r. ⌜ WroteAt at (stateText status state) (now (buf .entry)) (now (buf .exit)) r × (r ≤ at + 54) ⌝ }
 {
     match status {
-        1 => put_node(buf, at, state, b" open\", fillcolor=\"#ffffff\"];\n"),
-        2 => put_node(buf, at, state, b" unknown\", fillcolor=\"#ffe08a\"];\n"),
-        3 => put_node(buf, at, state, b" live\", fillcolor=\"#a8dba0\"];\n"),
-        4 => put_node(buf, at, state, b" dead\", fillcolor=\"#f0a8a0\"];\n"),
+        OPEN => put_node(buf, at, state, b" open\", fillcolor=\"#ffffff\"];\n"),
+        UNKNOWN => put_node(buf, at, state, b" unknown\", fillcolor=\"#ffe08a\"];\n"),
+        LIVE => put_node(buf, at, state, b" live\", fillcolor=\"#a8dba0\"];\n"),
+        DEAD => put_node(buf, at, state, b" dead\", fillcolor=\"#f0a8a0\"];\n"),
         _ => at,
     }
 }

@@ -1,4 +1,3 @@
--- The laws that following a record rests on.
+-- The laws of the status call.
 pub mod Numbers
-pub mod Starting
-pub mod Turns
+pub mod Asking

@@ -1,32 +1,70 @@
 -- The status of a state after a record. Document 01, "The record": "it hands over a record's bytes and a state number, and gets a status."
 -- Assumes nothing.
-use mathlib.Core.Bool.{cond}
-use mathlib.Core.List.{List, [], _∷_}
-use Prim.Native.Nat.{ℕ, _+_}
-use lib.Dec.{leb, eqb}
+use mathlib.Core.Path.{_≡_}
+use mathlib.Core.Bool.{Bool, true, false, cond}
+use mathlib.Core.List.{List, []}
+use mathlib.Core.Option.{Option, some, none}
+use Prim.Native.Nat.{ℕ, _+_, _≤_, _<_}
+use lib.Dec.{leb}
 use Rattle.gid.specs.Histories.{History}
 use Rattle.gid.specs.Statuses.{status}
-use Rattle.gid.specs.Outcomes.{Outcome, refused, accepted}
+use Rattle.gid.specs.Refusals.{maxStates}
 use Rattle.tables.specs.Tables.{Tables}
-use Rattle.record.specs.declared.splitter.Answer.{Answer}
+use Rattle.tables.specs.Keeping.{KeptTables}
 use Rattle.record.specs.Items.{items}
-use Rattle.reader.specs.Opening.{openNumber}
-use Rattle.reader.specs.Replaying.{outcomeOf, afterItem}
+use Rattle.reader.specs.declared.driver.LineAnswer.{LineAnswer}
+use Rattle.reader.specs.declared.driver.LineAnswer.the-variants.{Nothing, Accepted, Refused}
+use Rattle.reader.specs.Opening.{readerStates, openRefusal}
+use Rattle.reader.specs.Replaying.{historyOf, afterItems, Refusal, firstRefusal, upToRefusal}
+use Rattle.reader.specs.Reading.{recordLimit, graphOf}
+use Rattle.reader.specs.Standing.{Standing}
 
--- "A refusal answers 16 plus its number"; where there is none, the answer is r.
-abbrev pub refusedOr : Outcome → ℕ → ℕ
-refusedOr (refused k) r = 16 + k
-refusedOr (accepted l) r = r
+-- "A refusal answers 16 plus its number": of the tables, or of a line.
+abbrev pub orTables : Option ℕ → ℕ → ℕ
+orTables none r = r
+orTables (some k) r = 16 + k
+
+abbrev pub orLine : Option Refusal → ℕ → ℕ
+orLine none r = r
+orLine (some x) r = 16 + x .number
 
 -- "if several lines are refused, the first of them decides"; where none is, the status of the state s after all lines.
-unfoldable pub answerAfter : ℕ → ℕ → History → List Answer → ℕ
-answerAfter limit s h [] = status h s
-answerAfter limit s h (a ∷ l) = refusedOr (outcomeOf limit h a) (answerAfter limit s (afterItem limit h a) l)
+abbrev pub answerAfter : List ℕ → ℕ → ℕ
+answerAfter bytes s = orLine (firstRefusal recordLimit [] (items bytes)) (status (historyOf recordLimit bytes) s)
 
--- "A state of 2,048 or more counts as refusal 5 and is tested first." "The listing program and the C call use limit 2,048."
+-- "A state of 2,048 or more counts as refusal 5 and is tested first."
 unfoldable pub answerOf : List ℕ → ℕ → ℕ
-answerOf bytes s = cond (leb 2048 s) 21 (answerAfter 2048 s [] (items bytes))
+answerOf bytes s = cond (leb maxStates s) 21 (answerAfter bytes s)
 
 -- The same on lent tables, which may be too short: that is tested before the lines are.
 unfoldable pub answerOn : Tables → List ℕ → ℕ → ℕ
-answerOn t bytes s = cond (leb 2048 s) 21 (cond (eqb (openNumber 2048 t) 0) (answerAfter 2048 s [] (items bytes)) (16 + openNumber 2048 t))
+answerOn t bytes s = cond (leb maxStates s) 21 (orTables (openRefusal recordLimit t) (answerAfter bytes s))
+
+-- The history of the lines up to the first that is refused.
+abbrev pub historyUpTo : List ℕ → History
+historyUpTo bytes = afterItems recordLimit [] (upToRefusal recordLimit [] (items bytes))
+
+-- The answer, and the tables after the call. On a 21, and where the tables are too short, all are as they were. Else they stand for the lines up to the first that is refused, and no entry past a needed length is touched.
+pub record StatusAfter (bytes : List ℕ) (s : ℕ) (t t′ : Tables) (r : ℕ) : Type 0 where
+  pub answer : r ≡ answerOn t bytes s
+  pub outOfRange : maxStates ≤ s → t′ ≡ t
+  pub tooShort : (k : ℕ) → openRefusal recordLimit t ≡ some k → t′ ≡ t
+  pub stands : s < maxStates → openRefusal recordLimit t ≡ none → Standing recordLimit (historyUpTo bytes) (graphOf recordLimit (historyUpTo bytes)) t′
+  pub kept : KeptTables readerStates recordLimit t t′
+
+-- The answer by what came of a line.
+abbrev pub isRefused : LineAnswer → Bool
+isRefused Nothing = false
+isRefused (Accepted line k) = false
+isRefused (Refused line k) = true
+
+abbrev pub refusedOr : LineAnswer → ℕ → ℕ
+refusedOr Nothing b = b
+refusedOr (Accepted line k) b = b
+refusedOr (Refused line k) b = 16 + k
+
+-- Its number is one of document 01's.
+abbrev pub Few : LineAnswer → Type 0
+Few Nothing = Unit {0}
+Few (Accepted line k) = Unit {0}
+Few (Refused line k) = k ≤ 12

@@ -1,3 +1,2 @@
--- The status of a state after a record, and what holds while its lines are followed.
+-- The status of a state after a record.
 pub mod Answering
-pub mod Following

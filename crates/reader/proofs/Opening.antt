@@ -1,75 +1,86 @@
--- Opened tables are fresh, and of the lengths that they came with.
+-- Opened tables are fresh, of the lengths that they came with, and untouched past the needed ones.
 -- Assumes nothing.
-use mathlib.Core.Path.{_≡_, refl, sym, _∙_, ap}
+use mathlib.Core.Path.{_≡_, refl, ap}
 use mathlib.Core.Bool.{true}
-use mathlib.Core.List.{List, _++_}
-use Prim.Native.Nat.{ℕ, _+_, _-_, _<_, _≤_}
-use native.Mathlib.Omega.{arith}
-use lib.ListN.{length, getD, set, drop, replicate, length-append, length-drop, length-replicate, List·getD-append, getD-replicate}
-use borrow.Author.Fill.{fill-none, fill-more}
-use Rattle.tables.specs.Tables.{Tables, enough, needs, lengths}
+use mathlib.Core.List.{List, []}
+use mathlib.Core.Option.{some, none}
+use Prim.Native.Nat.{ℕ}
+use Rattle.tables.specs.Tables.{Tables, tablesOf, enough, needs, lengths, Long}
+use Rattle.tables.specs.Keeping.{KeptTables, filled}
+use Rattle.tables.specs.Refused.{number, lentNumber}
 use Rattle.tables.specs.Fitting.{Fresh}
-use Rattle.reader.specs.Opening.{filled, readerGraph, openNumber, freshened}
-use Rattle.tables.proofs.Refusing.{lent-leaves}
-use Rattle.engine.specs.Done.{tablesOf}
-use Rattle.engine.proofs.Promising.{room-of}
+use Rattle.tables.proofs.Keeping.{kept-none, filled-at, filled-kept}
+use Rattle.tables.proofs.Refusing.{lent-leaves, lent-passes, lent-refuses}
+use Rattle.tables.proofs.Sizes.{long-enough}
+use Rattle.reader.specs.declared.start.Opened.the-variants.{Ready, Refused}
+use Rattle.reader.specs.Opening.{readerStates, readerGraph, openRefusal, freshened, Opens}
 
-pub filled-length : (n v : ℕ) (l : List ℕ) → n ≤ length l → length (filled n v l) ≡ length l
-unfolding filled
-filled-length n v l h = omega (arith, length-append (replicate n v) (drop n l), length-replicate n v, length-drop n l)
+-- the number that the code tests
+abbrev pub openNumber : ℕ → Tables → ℕ
+openNumber limit t = lentNumber (readerGraph limit) (enough (needs readerStates limit (lengths t)))
 
-pub filled-at : (n v : ℕ) (l : List ℕ) (s : ℕ) → s < n → getD (filled n v l) s 0 ≡ v
-unfolding filled
-filled-at n v l s h = List·getD-append (replicate n v) (drop n l) 0 s (omega (arith, length-replicate n v)) ∙ getD-replicate n s v 0 h
+module _ (limit : ℕ) (t : Tables) where
+  pub opens-refused : (k : ℕ) → openNumber limit t ≡ k → (k ≡ 0 → ⊥) → Opens limit t t (Refused k)
+  opens-refused k e n =
+      let r : openRefusal limit t ≡ some k = lent-refuses (readerGraph limit) (enough (needs readerStates limit (lengths t))) [] [] k e n in
+      record { answer = rw r; tables = rw r }
 
-module _ (limit : ℕ) (t : Tables) (e : openNumber limit t ≡ 0) where
-  pub opened-fresh : Fresh (readerGraph limit) (freshened limit t)
-  opened-fresh =
-      record {
-        noSteps = refl;
-        status = filled-at 2048 0 (t .status);
-        marks = filled-at 2048 0 (t .marks);
-        successor = filled-at 2048 65535 (t .successor);
-        inHead = filled-at 2048 0 (t .inHead);
-        outHead = filled-at 2048 0 (t .outHead);
-        queue = filled-at 2048 0 (t .queue);
-        visited = filled-at 2048 0 (t .visited);
-        inNext = filled-at limit 0 (t .inNext);
-        outNext = filled-at limit 0 (t .outNext);
-      }
+  pub passes : openNumber limit t ≡ 0 → openRefusal limit t ≡ none
+  passes e = lent-passes (readerGraph limit) (enough (needs readerStates limit (lengths t))) [] [] e
 
-  pub opened-lengths : lengths (freshened limit t) ≡ lengths t
-  opened-lengths =
-      let r = room-of (readerGraph limit) t e in
-      rw (
-        filled-length 2048 0 (t .status) (r .status),
-        filled-length 2048 0 (t .marks) (r .marks),
-        filled-length 2048 65535 (t .successor) (r .successor),
-        filled-length 2048 0 (t .inHead) (r .inHead),
-        filled-length 2048 0 (t .outHead) (r .outHead),
-        filled-length 2048 0 (t .queue) (r .queue),
-        filled-length 2048 0 (t .visited) (r .visited),
-        filled-length limit 0 (t .inNext) (r .inNext),
-        filled-length limit 0 (t .outNext) (r .outNext),
-      )
+  pub opens-ready : {t′ : Tables} → openNumber limit t ≡ 0 → t′ ≡ freshened limit t → Opens limit t t′ (Ready (record { graph = readerGraph limit }))
+  opens-ready e f = record { answer = rw (passes e); tables = rw (passes e) f }
 
-  pub opened-long : enough (needs 2048 limit (lengths t)) ≡ true
-  opened-long = lent-leaves (readerGraph limit) (enough (needs 2048 limit (lengths t))) e .longs
+  -- what the tests leave
+  pub opened-number : openRefusal limit t ≡ none → openNumber limit t ≡ 0
+  unfolding lentNumber
+  opened-number e = ap number e
 
--- filling from the front, one entry after the other
-pub filled-none : (v : ℕ) (l : List ℕ) → l ≡ filled 0 v l
-unfolding filled
-filled-none v l = fill-none l v
+  module _ (e : openRefusal limit t ≡ none) where
+    pub opened-enough : enough (needs readerStates limit (lengths t)) ≡ true
+    opened-enough = lent-leaves (readerGraph limit) (enough (needs readerStates limit (lengths t))) (opened-number e) .longs
 
-pub filled-more : (n v : ℕ) (l : List ℕ) → n < length l → set (filled n v l) n v ≡ filled (n + 1) v l
-unfolding filled
-filled-more n v l h = fill-more n v l h
+    pub opened-long : Long readerStates limit t
+    opened-long = long-enough readerStates limit t opened-enough .1
+
+    pub opened-fresh : Fresh (readerGraph limit) (freshened limit t)
+    opened-fresh =
+        record {
+          noSteps = refl;
+          status = filled-at readerStates 0 (t .status);
+          marks = filled-at readerStates 0 (t .marks);
+          successor = filled-at readerStates 65535 (t .successor);
+          inHead = filled-at readerStates 0 (t .inHead);
+          outHead = filled-at readerStates 0 (t .outHead);
+          queue = filled-at readerStates 0 (t .queue);
+          visited = filled-at readerStates 0 (t .visited);
+          inNext = filled-at limit 0 (t .inNext);
+          outNext = filled-at limit 0 (t .outNext);
+        }
+
+    pub opened-kept : KeptTables readerStates limit t (freshened limit t)
+    opened-kept =
+        let l = opened-long in
+        record {
+          status = filled-kept readerStates 0 (t .status) (l .status);
+          marks = filled-kept readerStates 0 (t .marks) (l .marks);
+          from = kept-none limit (t .from);
+          to = kept-none limit (t .to);
+          successor = filled-kept readerStates 65535 (t .successor) (l .successor);
+          news = kept-none readerStates (t .news);
+          inHead = filled-kept readerStates 0 (t .inHead) (l .inHead);
+          outHead = filled-kept readerStates 0 (t .outHead) (l .outHead);
+          queue = filled-kept readerStates 0 (t .queue) (l .queue);
+          visited = filled-kept readerStates 0 (t .visited) (l .visited);
+          inNext = filled-kept limit 0 (t .inNext) (l .inNext);
+          outNext = filled-kept limit 0 (t .outNext) (l .outNext);
+        }
 
 -- the fresh tables, from what each call left
 pub freshened-by :
     (limit : ℕ) (t : Tables) {st ma su ih oh qu vi in′ on : List ℕ} →
-    st ≡ filled 2048 0 (t .status) → ma ≡ filled 2048 0 (t .marks) → su ≡ filled 2048 65535 (t .successor) →
-    ih ≡ filled 2048 0 (t .inHead) → oh ≡ filled 2048 0 (t .outHead) → qu ≡ filled 2048 0 (t .queue) → vi ≡ filled 2048 0 (t .visited) →
+    st ≡ filled readerStates 0 (t .status) → ma ≡ filled readerStates 0 (t .marks) → su ≡ filled readerStates 65535 (t .successor) →
+    ih ≡ filled readerStates 0 (t .inHead) → oh ≡ filled readerStates 0 (t .outHead) → qu ≡ filled readerStates 0 (t .queue) → vi ≡ filled readerStates 0 (t .visited) →
     in′ ≡ filled limit 0 (t .inNext) → on ≡ filled limit 0 (t .outNext) →
     tablesOf st ma (t .from) (t .to) su (t .news) ih oh qu vi in′ on ≡ freshened limit t
 freshened-by limit t a b c d e f g h k =

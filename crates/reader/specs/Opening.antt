@@ -1,48 +1,59 @@
 -- Opening the tables: "It tests 2 and 3 first, then makes the lent tables fresh (the news list keeps its contents), with n = 2,048 and its caller's step limit."
 -- Assumes nothing.
 use mathlib.Core.Path.{_≡_}
-use mathlib.Core.List.{List, _++_}
+use mathlib.Core.List.{[]}
+use mathlib.Core.Option.{Option, some, none}
 use Prim.Native.Nat.{ℕ}
-use lib.ListN.{drop, replicate}
+use Rattle.gid.specs.Successors.{noSuccessor}
+use Rattle.gid.specs.Refusals.{maxStates, first, lent}
+use Rattle.gid.specs.Outcomes.{Outcome, refused, accepted, byNumber}
 use Rattle.tables.specs.declared.Graph.{Graph}
 use Rattle.tables.specs.Tables.{Tables, enough, needs, lengths}
-use Rattle.tables.specs.Refused.{lentNumber}
-use Rattle.tables.specs.Fitting.{Fresh}
-use Rattle.gid.specs.Successors.{noSuccessor}
-use Rattle.engine.specs.declared.Engine.{Engine}
-use Rattle.reader.specs.declared.Opened.{Opened}
-use Rattle.reader.specs.declared.Opened.the-variants.{Ready, Refused}
+use Rattle.tables.specs.Keeping.{filled}
+use Rattle.tables.specs.Refused.{given}
+use Rattle.reader.specs.declared.start.Opened.{Opened}
+use Rattle.reader.specs.declared.start.Opened.the-variants.{Ready, Refused}
 
--- The first entries of a table all set to one value, the others as they were.
-unfoldable pub filled : ℕ → ℕ → List ℕ → List ℕ
-filled n v l = replicate n v ++ drop n l
+-- The states of a reader's tables.
+abbrev pub readerStates : ℕ
+readerStates = maxStates
 
--- The state value of a reader: 2,048 states, and no steps.
+-- The state value of a reader's fresh tables.
 abbrev pub readerGraph : ℕ → Graph
-readerGraph limit = record { n = 2048; limit = limit; steps = 0 }
+readerGraph limit = record { n = readerStates; limit = limit; steps = 0 }
 
--- The number of the tests 2 and 3 (1 and 4 never apply), 0 for none.
-abbrev pub openNumber : ℕ → Tables → ℕ
-openNumber limit t = lentNumber (readerGraph limit) (enough (needs 2048 limit (lengths t)))
+-- The number of the test 2 or 3, if it applies (1 and 4 never do).
+abbrev pub openRefusal : ℕ → Tables → Option ℕ
+openRefusal limit t = first (lent (given (readerGraph limit) (enough (needs readerStates limit (lengths t))) [] []))
 
+-- The tables made fresh (proofs/Opening.antt: `opened-fresh`).
 abbrev pub freshened : ℕ → Tables → Tables
 freshened limit t =
     record {
-      status = filled 2048 0 (t .status);
-      marks = filled 2048 0 (t .marks);
+      status = filled readerStates 0 (t .status);
+      marks = filled readerStates 0 (t .marks);
       from = t .from;
       to = t .to;
-      successor = filled 2048 noSuccessor (t .successor);
+      successor = filled readerStates noSuccessor (t .successor);
       news = t .news;
-      inHead = filled 2048 0 (t .inHead);
-      outHead = filled 2048 0 (t .outHead);
-      queue = filled 2048 0 (t .queue);
-      visited = filled 2048 0 (t .visited);
+      inHead = filled readerStates 0 (t .inHead);
+      outHead = filled readerStates 0 (t .outHead);
+      queue = filled readerStates 0 (t .queue);
+      visited = filled readerStates 0 (t .visited);
       inNext = filled limit 0 (t .inNext);
       outNext = filled limit 0 (t .outNext);
     }
 
--- Refused with 2 or 3, and nothing changed; or ready, and the tables fresh (proofs/Opening.antt: `opened-fresh`).
-pub data Opens (limit : ℕ) (t t′ : Tables) : Opened → Type 0 where
-  refuses : {k : ℕ} → openNumber limit t ≡ k → (k ≡ 0 → ⊥) → t′ ≡ t → Opens limit t t′ (Refused k)
-  readies : openNumber limit t ≡ 0 → t′ ≡ freshened limit t → Opens limit t t′ (Ready (record { graph = readerGraph limit }))
+-- Document 01's number and value for each answer: the state value of the fresh tables.
+abbrev pub openedOutcome : Opened → Outcome Graph
+openedOutcome (Ready e) = accepted (e .graph)
+openedOutcome (Refused k) = refused k
+
+-- The tables after it: as they were where it is refused.
+abbrev pub openedTables : ℕ → Tables → Option ℕ → Tables
+openedTables limit t none = freshened limit t
+openedTables limit t (some k) = t
+
+pub record Opens (limit : ℕ) (t t′ : Tables) (r : Opened) : Type 0 where
+  pub answer : openedOutcome r ≡ byNumber (openRefusal limit t) (readerGraph limit)
+  pub tables : t′ ≡ openedTables limit t (openRefusal limit t)

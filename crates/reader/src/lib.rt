@@ -1,28 +1,25 @@
-// The reader: makes the lent tables fresh, and applies the updates of a record line by line. The record comes in parts of any length.
+// The reader: makes the lent tables fresh, and applies the updates of a record line by line. The record comes in parts of any length, or whole.
 ghost use mathlib.Core.Path.{_≡_};
-ghost use Prim.Native.Nat.{ℕ, _≤_, _<_};
-ghost use lib.ListN.{length, getD};
-ghost use Rattle.engine.specs.Done.{tablesOf};
-ghost use Rattle.record.specs.Splitting.{afterPart, atEnd};
-ghost use Rattle.reader.specs.Opening.{Opens, filled};
-ghost use Rattle.reader.specs.Turning.{Came};
-ghost use Rattle.record.specs.declared.splitter.Answer.the-variants.{Update as Read};
-use engine::Answer;
-use engine::Engine;
-use gid::Update;
-use record::Numbered;
-use record::Splitter;
-use tables::Graph;
-use tables::Lengths;
-use tables::MAX_STATES;
-use tables::NO_SUCCESSOR;
+ghost use Rattle.tables.specs.Tables.{tablesOf};
+ghost use Rattle.record.specs.Splitting.{started};
+ghost use Rattle.reader.specs.Reading.{Reads, readBy, readWith};
 
-// What comes of a line, with its number: it is accepted with a number of news, or refused with document 01's number; or no line has ended.
-pub enum Outcome {
-    Nothing,
-    Accepted { line: usize, count: usize },
-    Refused { line: usize, number: u8 },
-}
+mod driver;
+mod start;
+mod task;
+
+pub use driver::LineAnswer;
+pub use driver::Turn;
+pub use driver::Until;
+use engine::Engine;
+use record::Splitter;
+pub use start::Opened;
+pub use start::open;
+pub use task::Task;
+pub use task::piece_or;
+
+// "The listing program and the C call use limit 2,048."
+pub const RECORD_LIMIT: usize = 2048;
 
 // The reader's state: where it stands in the record, and the engine's state value.
 pub struct Reader {
@@ -30,202 +27,44 @@ pub struct Reader {
     pub engine: Engine,
 }
 
-// What opening the tables answers.
-pub enum Opened {
-    Ready(Engine),
+// What reading a whole record answers.
+pub enum ReadAnswer {
+    // The number of the test 2 or 3: nothing was read.
     Refused(u8),
-}
-
-// The reader after a part of the record, what came of the line that ended there, and the index after it.
-pub struct Turn {
-    pub reader: Reader,
-    pub outcome: Outcome,
-    pub next: usize,
-}
-
-// The engine after a line, beside what came of it.
-pub struct Applied {
-    pub engine: Engine,
-    pub outcome: Outcome,
-}
-
-// Tests 2 and 3, then makes the lent tables fresh for 2,048 states and a step limit. "the news list keeps its contents"
-pub fn open(
-    limit: usize,
-    status: &mut [u8],
-    marks: &mut [u8],
-    from: &mut [u16],
-    to: &mut [u16],
-    successor: &mut [u16],
-    news: &mut [u16],
-    in_head: &mut [u16],
-    out_head: &mut [u16],
-    queue: &mut [u16],
-    visited: &mut [u16],
-    in_next: &mut [u16],
-    out_next: &mut [u16],
-) -> Opened
-    ensures { λ r. ⌜ Opens limit (tablesOf (now (status .entry)) (now (marks .entry)) (now (from .entry)) (now (to .entry)) (now (successor .entry)) (now (news .entry)) (now («in_head» .entry)) (now («out_head» .entry)) (now (queue .entry)) (now (visited .entry)) (now («in_next» .entry)) (now («out_next» .entry))) (tablesOf (now (status .exit)) (now (marks .exit)) (now (from .exit)) (now (to .exit)) (now (successor .exit)) (now (news .exit)) (now («in_head» .exit)) (now («out_head» .exit)) (now (queue .exit)) (now (visited .exit)) (now («in_next» .exit)) (now («out_next» .exit))) r ⌝ }
-{
-    let lengths = Lengths {
-        status: status.len(),
-        marks: marks.len(),
-        successor: successor.len(),
-        news: news.len(),
-        in_head: in_head.len(),
-        out_head: out_head.len(),
-        queue: queue.len(),
-        visited: visited.len(),
-        from: from.len(),
-        to: to.len(),
-        in_next: in_next.len(),
-        out_next: out_next.len(),
-    };
-    let graph = Graph {
-        n: MAX_STATES,
-        limit,
-        steps: 0,
-    };
-    let refused = graph.lent(lengths.enough(MAX_STATES, limit));
-    if refused != 0 {
-        return Opened::Refused(refused);
-    }
-    fill_bytes(status, MAX_STATES, 0);
-    fill_bytes(marks, MAX_STATES, 0);
-    fill(successor, MAX_STATES, NO_SUCCESSOR);
-    fill(in_head, MAX_STATES, 0);
-    fill(out_head, MAX_STATES, 0);
-    fill(queue, MAX_STATES, 0);
-    fill(visited, MAX_STATES, 0);
-    fill(in_next, limit, 0);
-    fill(out_next, limit, 0);
-    Opened::Ready(Engine { graph })
-}
-
-fn fill_bytes(table: &mut [u8], count: usize, value: u8)
-    requires { ⌜ count ≤ length (now table) ⌝ }
-    ensures { λ _. ⌜ now (table .exit) ≡ filled count value (now (table .entry)) ⌝ }
-{
-    let mut i = 0;
-    while i < count {
-        table[i] = value;
-        i += 1;
-    }
-}
-
-fn fill(table: &mut [u16], count: usize, value: u16)
-    requires { ⌜ count ≤ length (now table) ⌝ }
-    ensures { λ _. ⌜ now (table .exit) ≡ filled count value (now (table .entry)) ⌝ }
-{
-    let mut i = 0;
-    while i < count {
-        table[i] = value;
-        i += 1;
-    }
+    // The state value after the last line: every line was accepted.
+    Accepted(Engine),
+    // The state value after the last line, and the line and the number of the first refusal.
+    Partly {
+        engine: Engine,
+        line: usize,
+        number: u8,
+    },
 }
 
 impl Reader {
-    // Reads the bytes of a part from an index on, up to the end of a line or of the part, and applies the line's update.
-    pub fn turn(
-        self,
-        part: &[u8],
-        at: usize,
-        status: &mut [u8],
-        marks: &mut [u8],
-        from: &mut [u16],
-        to: &mut [u16],
-        successor: &mut [u16],
-        news: &mut [u16],
-        in_head: &mut [u16],
-        out_head: &mut [u16],
-        queue: &mut [u16],
-        visited: &mut [u16],
-        in_next: &mut [u16],
-        out_next: &mut [u16],
-    ) -> Turn
-        ensures { λ r. ⌜ (r .next ≡ afterPart (self .splitter) (now (part .entry)) at .next)
-            × (r .reader .splitter ≡ afterPart (self .splitter) (now (part .entry)) at .splitter)
-            × Came (afterPart (self .splitter) (now (part .entry)) at .answer) (self .engine .graph) (tablesOf (now (status .entry)) (now (marks .entry)) (now (from .entry)) (now (to .entry)) (now (successor .entry)) (now (news .entry)) (now («in_head» .entry)) (now («out_head» .entry)) (now (queue .entry)) (now (visited .entry)) (now («in_next» .entry)) (now («out_next» .entry))) (r .reader .engine .graph) (tablesOf (now (status .exit)) (now (marks .exit)) (now (from .exit)) (now (to .exit)) (now (successor .exit)) (now (news .exit)) (now («in_head» .exit)) (now («out_head» .exit)) (now (queue .exit)) (now (visited .exit)) (now («in_next» .exit)) (now («out_next» .exit))) (r .outcome) ⌝ }
+    // At the start of a record.
+    pub fn start(engine: Engine) -> Reader
+        ensures { λ r. ⌜ (r .splitter ≡ started) × (r .engine ≡ engine) ⌝ }
     {
-        let splitter = self.splitter;
-        let advanced = splitter.feed_line(part, at);
-        let after = advanced.splitter;
-        let next = advanced.next;
-        let answer = advanced.answer;
-        let engine = self.engine;
-        let applied = apply(
+        Reader {
+            splitter: Splitter::start(),
             engine,
-            answer,
-            status,
-            marks,
-            from,
-            to,
-            successor,
-            news,
-            in_head,
-            out_head,
-            queue,
-            visited,
-            in_next,
-            out_next,
-        );
-        let engine = applied.engine;
-        let outcome = applied.outcome;
-        let reader = Reader {
-            splitter: after,
-            engine,
-        };
-        Turn {
-            reader,
-            outcome,
-            next,
         }
     }
 
-    // The end of the record: its last line may lack a newline.
-    pub fn finish(
-        self,
-        status: &mut [u8],
-        marks: &mut [u8],
-        from: &mut [u16],
-        to: &mut [u16],
-        successor: &mut [u16],
-        news: &mut [u16],
-        in_head: &mut [u16],
-        out_head: &mut [u16],
-        queue: &mut [u16],
-        visited: &mut [u16],
-        in_next: &mut [u16],
-        out_next: &mut [u16],
-    ) -> Applied
-        ensures { λ r. ⌜ Came (atEnd (self .splitter)) (self .engine .graph) (tablesOf (now (status .entry)) (now (marks .entry)) (now (from .entry)) (now (to .entry)) (now (successor .entry)) (now (news .entry)) (now («in_head» .entry)) (now («out_head» .entry)) (now (queue .entry)) (now (visited .entry)) (now («in_next» .entry)) (now («out_next» .entry))) (r .engine .graph) (tablesOf (now (status .exit)) (now (marks .exit)) (now (from .exit)) (now (to .exit)) (now (successor .exit)) (now (news .exit)) (now («in_head» .exit)) (now («out_head» .exit)) (now (queue .exit)) (now (visited .exit)) (now («in_next» .exit)) (now («out_next» .exit))) (r .outcome) ⌝ }
+    // Whether reading has stopped, at a 10 or a 12.
+    pub fn is_over(self) -> bool
+        ensures { λ r. ⌜ r ≡ self .splitter .stopped ⌝ }
     {
         let splitter = self.splitter;
-        let answer = splitter.finish();
-        let engine = self.engine;
-        apply(
-            engine,
-            answer,
-            status,
-            marks,
-            from,
-            to,
-            successor,
-            news,
-            in_head,
-            out_head,
-            queue,
-            visited,
-            in_next,
-            out_next,
-        )
+        splitter.stopped
     }
 }
 
-// What comes of what the splitter answers: an update is made on the tables, and anything else changes nothing.
-fn apply(
-    engine: Engine,
-    answer: record::Answer,
+// Reads a whole record, of any bytes, with a step limit: tests 2 and 3, makes the tables fresh, and applies each line.
+pub fn read(
+    limit: usize,
+    bytes: &[u8],
     status: &mut [u8],
     marks: &mut [u8],
     from: &mut [u16],
@@ -238,73 +77,11 @@ fn apply(
     visited: &mut [u16],
     in_next: &mut [u16],
     out_next: &mut [u16],
-) -> Applied
-    ensures { λ r. ⌜ Came answer (engine .graph) (tablesOf (now (status .entry)) (now (marks .entry)) (now (from .entry)) (now (to .entry)) (now (successor .entry)) (now (news .entry)) (now («in_head» .entry)) (now («out_head» .entry)) (now (queue .entry)) (now (visited .entry)) (now («in_next» .entry)) (now («out_next» .entry))) (r .engine .graph) (tablesOf (now (status .exit)) (now (marks .exit)) (now (from .exit)) (now (to .exit)) (now (successor .exit)) (now (news .exit)) (now («in_head» .exit)) (now («out_head» .exit)) (now (queue .exit)) (now (visited .exit)) (now («in_next» .exit)) (now («out_next» .exit))) (r .outcome) ⌝ }
+) -> ReadAnswer
+    ensures { λ r. ⌜ Reads limit (now (bytes .entry)) (tablesOf (now (status .entry)) (now (marks .entry)) (now (from .entry)) (now (to .entry)) (now (successor .entry)) (now (news .entry)) (now («in_head» .entry)) (now («out_head» .entry)) (now (queue .entry)) (now (visited .entry)) (now («in_next» .entry)) (now («out_next» .entry))) (tablesOf (now (status .exit)) (now (marks .exit)) (now (from .exit)) (now (to .exit)) (now (successor .exit)) (now (news .exit)) (now («in_head» .exit)) (now («out_head» .exit)) (now (queue .exit)) (now (visited .exit)) (now («in_next» .exit)) (now («out_next» .exit))) r ⌝ }
 {
-    match answer {
-        record::Answer::Nothing => Applied {
-            engine,
-            outcome: Outcome::Nothing,
-        },
-        record::Answer::Update(numbered) => update(
-            engine,
-            numbered,
-            status,
-            marks,
-            from,
-            to,
-            successor,
-            news,
-            in_head,
-            out_head,
-            queue,
-            visited,
-            in_next,
-            out_next,
-        ),
-        record::Answer::Malformed(line) => Applied {
-            engine,
-            outcome: Outcome::Refused { line, number: 11 },
-        },
-        record::Answer::BadNames => Applied {
-            engine,
-            outcome: Outcome::Refused {
-                line: 1,
-                number: 10,
-            },
-        },
-        record::Answer::TooMany => Applied {
-            engine,
-            outcome: Outcome::Refused {
-                line: 65536,
-                number: 12,
-            },
-        },
-    }
-}
-
-fn update(
-    engine: Engine,
-    numbered: Numbered,
-    status: &mut [u8],
-    marks: &mut [u8],
-    from: &mut [u16],
-    to: &mut [u16],
-    successor: &mut [u16],
-    news: &mut [u16],
-    in_head: &mut [u16],
-    out_head: &mut [u16],
-    queue: &mut [u16],
-    visited: &mut [u16],
-    in_next: &mut [u16],
-    out_next: &mut [u16],
-) -> Applied
-    ensures { λ r. ⌜ Came (Read numbered) (engine .graph) (tablesOf (now (status .entry)) (now (marks .entry)) (now (from .entry)) (now (to .entry)) (now (successor .entry)) (now (news .entry)) (now («in_head» .entry)) (now («out_head» .entry)) (now (queue .entry)) (now (visited .entry)) (now («in_next» .entry)) (now («out_next» .entry))) (r .engine .graph) (tablesOf (now (status .exit)) (now (marks .exit)) (now (from .exit)) (now (to .exit)) (now (successor .exit)) (now (news .exit)) (now («in_head» .exit)) (now («out_head» .exit)) (now (queue .exit)) (now (visited .exit)) (now («in_next» .exit)) (now («out_next» .exit))) (r .outcome) ⌝ }
-{
-    let line = numbered.line;
-    let sent = numbered.update;
-    let done = engine.update(
-        sent,
+    let opened = open(
+        limit,
         status,
         marks,
         from,
@@ -318,16 +95,101 @@ fn update(
         in_next,
         out_next,
     );
-    let after = done.engine;
-    let answer = done.answer;
-    match answer {
-        Answer::Accepted(count) => Applied {
-            engine: after,
-            outcome: Outcome::Accepted { line, count },
+    match opened {
+        Opened::Refused(number) => ReadAnswer::Refused(number),
+        Opened::Ready(engine) => {
+            let start = Reader::start(engine);
+            let first = start.advance(
+                bytes,
+                0,
+                Until::Refusal,
+                status,
+                marks,
+                from,
+                to,
+                successor,
+                news,
+                in_head,
+                out_head,
+                queue,
+                visited,
+                in_next,
+                out_next,
+            );
+            let refused = first.reader;
+            let next = first.next;
+            let rest = refused.advance(
+                bytes,
+                next,
+                Until::End,
+                status,
+                marks,
+                from,
+                to,
+                successor,
+                news,
+                in_head,
+                out_head,
+                queue,
+                visited,
+                in_next,
+                out_next,
+            );
+            let ended = rest.reader;
+            let splitter = ended.splitter;
+            let newline: &[u8] = b"\n";
+            let len = splitter.lacking();
+            let last = ended.advance(
+                &newline[..len],
+                0,
+                Until::Refusal,
+                status,
+                marks,
+                from,
+                to,
+                successor,
+                news,
+                in_head,
+                out_head,
+                queue,
+                visited,
+                in_next,
+                out_next,
+            );
+            let reader = last.reader;
+            let engine = reader.engine;
+            let before = first.answer;
+            let after = last.answer;
+            answer_with(engine, before, after)
+        }
+    }
+}
+
+// The answer, by what came of the first refused line, or of the last line.
+fn answer_with(engine: Engine, first: LineAnswer, last: LineAnswer) -> ReadAnswer
+    ensures { λ r. ⌜ r ≡ readWith engine first last ⌝ }
+{
+    match first {
+        LineAnswer::Nothing => answer_by(engine, last),
+        LineAnswer::Accepted { line: _, count: _ } => answer_by(engine, last),
+        LineAnswer::Refused { line, number } => ReadAnswer::Partly {
+            engine,
+            line,
+            number,
         },
-        Answer::Refused(number) => Applied {
-            engine: after,
-            outcome: Outcome::Refused { line, number },
+    }
+}
+
+fn answer_by(engine: Engine, last: LineAnswer) -> ReadAnswer
+    ensures { λ r. ⌜ r ≡ readBy engine last ⌝ }
+{
+    match last {
+        LineAnswer::Nothing => ReadAnswer::Accepted(engine),
+        LineAnswer::Accepted { line: _, count: _ } => ReadAnswer::Accepted(engine),
+        LineAnswer::Refused { line, number } => ReadAnswer::Partly {
+            engine,
+            line,
+            number,
         },
     }
 }

@@ -19,7 +19,7 @@ use Rattle.record.specs.declared.grammar.Value.the-variants.{Number, Mal
 use Rattle.record.specs.declared.grammar.After.{After}
 use Rattle.record.specs.declared.grammar.After.the-variants.{At, Malformed as NotThere}
 use Rattle.record.specs.Parsing.{digitOf, front, rest}
-use Rattle.record.specs.Grammar.{Front, isDigit, digits, value, behind, whole, mark, update, fields, lineOf, _>>=_}
+use Rattle.record.specs.Grammar.{Front, isDigit, digits, value, behind, whole, markWith, update, fields, lineOf, _andThen_}
 
 pub is-digit : (b : ℕ) → 48 ≤ b → b ≤ 57 → isDigit b ≡ true
 is-digit b p q = rw (le-leb 48 b p, le-leb b 57 q)
@@ -54,8 +54,8 @@ module _ (l : List ℕ) (at : ℕ) where
     pub whole-end : (x : Update) → whole x (drop at l) ≡ some x
     whole-end x = rw (drop-of-length-le l h)
 
-    pub mark-end : (x : Update) → mark x (drop at l) ≡ none
-    unfolding mark
+    pub mark-end : (x : Update) → markWith x (drop at l) ≡ none
+    unfolding markWith
     mark-end x = rw (behind-end 45)
 
   module _ (h : at < length l) where
@@ -94,12 +94,12 @@ module _ (l : List ℕ) (at : ℕ) where
     unfolding digits
     digits-more n e p = rw (here h, e, le-leb (n * 10 + (getD l at 0 - 48)) 65535 p)
 
-    pub mark-other : (x : Update) → (getD l at 0 ≡ 45 → ⊥) → mark x (drop at l) ≡ none
-    unfolding mark
+    pub mark-other : (x : Update) → (getD l at 0 ≡ 45 → ⊥) → markWith x (drop at l) ≡ none
+    unfolding markWith
     mark-other x e = rw (behind-other 45 e)
 
-    pub mark-dash : (x : Update) → getD l at 0 ≡ 45 → mark x (drop at l) ≡ whole x (drop (at + 1) l)
-    unfolding mark
+    pub mark-dash : (x : Update) → getD l at 0 ≡ 45 → markWith x (drop at l) ≡ whole x (drop (at + 1) l)
+    unfolding markWith
     mark-dash x e = rw (behind-same 45 e)
 
 pub digit-bounds : (b : ℕ) → isDigit b ≡ true → (48 ≤ b) × (b ≤ 57)
@@ -146,7 +146,7 @@ unfolding lineOf fields
 no-line [] e = refl
 no-line (k ∷ l) e = absurd (omega arith)
 
-pub from-kind : (l : List ℕ) → (length l ≡ 0 → ⊥) → length l ≤ 16 → lineOf l ≡ (behind 32 (drop 1 l) >>= value >>= λ from. behind 32 (from .rest) >>= update (getD l 0 0) (from .number))
+pub from-kind : (l : List ℕ) → (length l ≡ 0 → ⊥) → length l ≤ 16 → lineOf l ≡ (behind 32 (drop 1 l) andThen value andThen λ from. behind 32 (from .rest) andThen update (getD l 0 0) (from .number))
 unfolding lineOf fields
 from-kind [] n h = absurd (n refl)
 from-kind (k ∷ l) n h = rw (le-leb (length (k ∷ l)) 16 h)

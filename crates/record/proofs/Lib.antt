@@ -6,3 +6,4 @@ pub mod Decimals
 pub mod Reading
 pub mod Splitting
 pub mod Writing
+pub mod Placing

@@ -14,7 +14,7 @@ use borrow.Author.Tests.{ne-eqb, le-leb, eqb-true, eqb-false, leb-true}
 use Rattle.gid.specs.declared.Update.{Update}
 use Rattle.gid.specs.declared.Update.the-variants.{Step, Terminal, Close}
 use Rattle.record.specs.Text.{decimal, head, last, text, maxValue, Within}
-use Rattle.record.specs.Grammar.{Front, isDigit, digits, value, behind, whole, step, mark, update, fields, lineOf, _>>=_}
+use Rattle.record.specs.Grammar.{Front, isDigit, digits, value, behind, whole, step, markWith, update, fields, lineOf, _andThen_}
 use Rattle.record.proofs.Decimals.{decimal-digit, decimal-more, decimal-then, five-digits}
 use Rattle.record.proofs.Indexed.{is-digit, digit-bounds}
 
@@ -74,7 +74,7 @@ step-text from to h =
     rw (subst (λ (l : List ℕ). value l ≡ some (record { number = to; rest = [] })) (append-nil (decimal to)) (value-back to h [] tt))
 
 fields-text : (x : Update) → Within x → fields (text x) ≡ some x
-unfolding update mark behind
+unfolding update markWith behind
 fields-text (Step u v) h = fields-head 69 u (h .0) (decimal v) ∙ step-text u v (h .1)
 fields-text (Terminal u) h = fields-head 84 u h (45 ∷ [])
 fields-text (Close u) h = fields-head 67 u h (45 ∷ [])
@@ -92,7 +92,7 @@ unfolding lineOf
 line-back x h = rw (le-leb (length (text x)) 16 (omega (arith, text-length x h))) (fields-text x h)
 
 -- what a step of the grammar took
-taken : {A B : Type 0} (o : Option A) (f : A → Option B) (b : B) → o >>= f ≡ some b → (a : A) × (o ≡ some a) × (f a ≡ some b)
+taken : {A B : Type 0} (o : Option A) (f : A → Option B) (b : B) → o andThen f ≡ some b → (a : A) × (o ≡ some a) × (f a ≡ some b)
 taken none f b e = absurd (none-some b e)
 taken (some a) f b e = (a, refl, e)
 
@@ -175,8 +175,8 @@ step-taken u l x h e =
     subst (λ (x : Update). (head 69 u ++ l ≡ text x) × Within x) (w .1)
     (ap (λ (l : List ℕ). head 69 u ++ l) (v .0 ∙ ap (λ (r : List ℕ). decimal (t .0 .number) ++ r) (w .0) ∙ append-nil (decimal (t .0 .number))), (h, v .1))
 
-mark-taken : (y x : Update) (l : List ℕ) → mark y l ≡ some x → (l ≡ 45 ∷ []) × (y ≡ x)
-unfolding mark
+mark-taken : (y x : Update) (l : List ℕ) → markWith y l ≡ some x → (l ≡ 45 ∷ []) × (y ≡ x)
+unfolding markWith
 mark-taken y x l e =
     let t = taken (behind 45 l) (whole y) x e in
     let w = whole-taken y x (t .0) (t .2) in
@@ -186,20 +186,20 @@ update-taken : (k u : ℕ) (l : List ℕ) (x : Update) → u ≤ maxValue → up
 unfolding update Read
 update-taken k u l x h e = isStep (eqb k 69) refl e
   where
-    marked : (y : Update) → (head k u ++ (45 ∷ []) ≡ text y) × Within y → mark y l ≡ some x → Read k u l x
+    marked : (y : Update) → (head k u ++ (45 ∷ []) ≡ text y) × Within y → markWith y l ≡ some x → Read k u l x
     marked y t z =
         let m = mark-taken y x l z in
         subst (λ (x : Update). (head k u ++ l ≡ text x) × Within x) (m .1) (rw (m .0) (t .0), t .1)
 
-    isClose : (t : Bool) → eqb k 67 ≡ t → cond t (mark (Close u) l) none ≡ some x → Read k u l x
+    isClose : (t : Bool) → eqb k 67 ≡ t → cond t (markWith (Close u) l) none ≡ some x → Read k u l x
     isClose true p z = marked (Close u) (rw (eqb-true k 67 p) refl, h) z
     isClose false p z = absurd (none-some x z)
 
-    isTerminal : (t : Bool) → eqb k 84 ≡ t → cond t (mark (Terminal u) l) (cond (eqb k 67) (mark (Close u) l) none) ≡ some x → Read k u l x
+    isTerminal : (t : Bool) → eqb k 84 ≡ t → cond t (markWith (Terminal u) l) (cond (eqb k 67) (markWith (Close u) l) none) ≡ some x → Read k u l x
     isTerminal true p z = marked (Terminal u) (rw (eqb-true k 84 p) refl, h) z
     isTerminal false p z = isClose (eqb k 67) refl z
 
-    isStep : (t : Bool) → eqb k 69 ≡ t → cond t (step u l) (cond (eqb k 84) (mark (Terminal u) l) (cond (eqb k 67) (mark (Close u) l) none)) ≡ some x → Read k u l x
+    isStep : (t : Bool) → eqb k 69 ≡ t → cond t (step u l) (cond (eqb k 84) (markWith (Terminal u) l) (cond (eqb k 67) (markWith (Close u) l) none)) ≡ some x → Read k u l x
     isStep true p z = rw (eqb-true k 69 p) (step-taken u l x h z)
     isStep false p z = isTerminal (eqb k 84) refl z
 
@@ -212,7 +212,7 @@ fields-taken : (l : List ℕ) (x : Update) → fields l ≡ some x → (l ≡ te
 unfolding fields Taken Read
 fields-taken [] x e = absurd (none-some x e)
 fields-taken (kind ∷ l) x e =
-    let t = taken (behind 32 l >>= value) (λ from. behind 32 (from .rest) >>= update kind (from .number)) x e in
+    let t = taken (behind 32 l andThen value) (λ from. behind 32 (from .rest) andThen update kind (from .number)) x e in
     let s = taken (behind 32 l) value (t .0) (t .1) in
     let v = value-taken (s .0) (t .0) (s .2) in
     let r = taken (behind 32 (t .0 .rest)) (update kind (t .0 .number)) x (t .2) in

@@ -12,25 +12,25 @@ use native.Mathlib.Decide.{decLt, ℕ-discrete}
 use lib.Dec.{leb, ltb, eqb}
 use lib.ListN.{length, take, drop, set, length-append, length-drop, length-set, drop-of-length-le}
 use lib.Seq.{take-suc-set, drop-drop, drop-at}
-use borrow.Author.Tests.{eq-eqb, ne-eqb, le-leb, lt-leb, leb-false, eqb-true, eqb-false, lt-ltb, le-ltb, ltb-true, ltb-false}
+use borrow.Author.Tests.{eq-eqb, ne-eqb, le-leb, lt-leb, leb-true, leb-false, eqb-true, eqb-false, lt-ltb, le-ltb, ltb-true, ltb-false}
 use Rattle.gid.specs.declared.Update.{Update}
 use Rattle.record.specs.declared.line.Line.{Line}
-use Rattle.record.specs.declared.splitter.Answer.{Answer}
-use Rattle.record.specs.declared.splitter.Answer.the-variants.{Nothing, BadNames, TooMany}
+use Rattle.record.specs.declared.splitter.Item.{Item}
+use Rattle.record.specs.declared.splitter.Item.the-variants.{Nothing, BadNames, TooMany}
 use Rattle.record.specs.declared.splitter.Splitter.{Splitter}
 use Rattle.record.specs.declared.splitter.Fed.{Fed}
 use Rattle.record.specs.Text.{names}
 use Rattle.record.specs.Grammar.{lineOf}
 use Rattle.record.specs.Lines.{lines, before}
-use Rattle.record.specs.Items.{same, item, further, all, items}
+use Rattle.record.specs.Items.{same, lineItem, maxLines, further, all, items, itemLine}
 use Rattle.record.specs.Buffer.{emptyLine, withByte, withBytes, lineIn, isNamesIn}
 use Rattle.record.specs.Parsing.{parsed}
-use Rattle.record.specs.Splitting.{at, fed, advanced, started, afterFirst, afterFurther, afterLine, afterByte, afterPart, pending, atEnd, told, run, afterBytes, answered}
+use Rattle.record.specs.Splitting.{at, fed, advanced, started, afterFirst, afterFurther, afterLine, afterByte, afterPart, pending, lastNewline, atEnd, told, run, afterBytes, itemOf}
 use Rattle.record.proofs.Sameness.{other-length}
 
-pub answered-item : (o : Option Update) (n : ℕ) → answered (parsed o) n ≡ item n o
-answered-item none n = refl
-answered-item (some x) n = refl
+pub parsed-item : (o : Option Update) (n : ℕ) → itemOf (parsed o) n ≡ lineItem n o
+parsed-item none n = refl
+parsed-item (some x) n = refl
 
 -- The buffer b holds a line whose bytes so far are l.
 pub data Holds (b : Line) (l : List ℕ) : Type 0 where
@@ -91,9 +91,9 @@ unfolding lines
 lines-last b [] (more n u) = rw (ne-eqb b 10 n)
 lines-last b (c ∷ l) (more n u) = rw (ne-eqb b 10 n, lines-last c l u)
 
-told-item : (n : ℕ) (o : Option Update) → told (item n o) ≡ item n o ∷ []
-told-item n none = refl
-told-item n (some x) = refl
+told-line : (n : ℕ) (o : Option Update) → told (lineItem n o) ≡ lineItem n o ∷ []
+told-line n none = refl
+told-line n (some x) = refl
 
 either-way : (t : Bool) → told (cond t Nothing Nothing) ≡ []
 either-way true = refl
@@ -109,13 +109,16 @@ unfolding run atEnd afterLine afterByte
 run-stopped [] b n = either-way (pending (at b n true))
 run-stopped (c ∷ s) b n = by (eqb c 10) (run-stopped s b n) (run-stopped s (withByte b c) n)
   where
-    by : (t : Bool) → run (at b n true) s ≡ [] → run (at (withByte b c) n true) s ≡ [] → told (cond t (fed (at b n true) Nothing) (fed (at (withByte b c) n true) Nothing) .answer) ++ run (cond t (fed (at b n true) Nothing) (fed (at (withByte b c) n true) Nothing) .splitter) s ≡ []
+    by : (t : Bool) → run (at b n true) s ≡ [] → run (at (withByte b c) n true) s ≡ [] → told (cond t (fed (at b n true) Nothing) (fed (at (withByte b c) n true) Nothing) .item) ++ run (cond t (fed (at b n true) Nothing) (fed (at (withByte b c) n true) Nothing) .splitter) s ≡ []
     by true p q = p
     by false p q = q
 
+pub stopped-told : (s : Splitter) → s .stopped ≡ true → (bytes : List ℕ) → run s bytes ≡ []
+stopped-told s e bytes = subst (λ (q : Bool). run (at (s .line) (s .number) q) bytes ≡ []) (sym e) (run-stopped bytes (s .line) (s .number))
+
 -- What is told once a line has ended, and behind it.
-onward : Fed → List ℕ → List Answer
-onward f s = told (f .answer) ++ run (f .splitter) s
+onward : Fed → List ℕ → List Item
+onward f s = told (f .item) ++ run (f .splitter) s
 
 -- A byte that is no newline goes to the line.
 run-byte : (c : ℕ) (s : List ℕ) (b : Line) (n : ℕ) (q : Bool) → (c ≡ 10 → ⊥) → run (at b n q) (c ∷ s) ≡ run (at (withByte b c) n q) s
@@ -132,17 +135,17 @@ module _ (n : ℕ) (h : 2 ≤ n) where
   unfolding onward afterLine afterFurther further
   further-line l b k s ih = rw (lt-leb n 1 (omega arith), line-held b l k) (by (leb n 65535))
     where
-      by : (t : Bool) → onward (cond t (fed (at emptyLine (n + 1) false) (item n (lineOf l))) (fed (at emptyLine n true) TooMany)) s ≡ cond t (item n (lineOf l) ∷ further (n + 1) (lines s)) (TooMany ∷ [])
-      by true = rw (told-item n (lineOf l), ih (n + 1) (omega arith)) refl
+      by : (t : Bool) → onward (cond t (fed (at emptyLine (n + 1) false) (lineItem n (lineOf l))) (fed (at emptyLine n true) TooMany)) s ≡ cond t (lineItem n (lineOf l) ∷ further (n + 1) (lines s)) (TooMany ∷ [])
+      by true = rw (told-line n (lineOf l), ih (n + 1) (omega arith)) refl
       by false = rw (run-stopped s emptyLine n) refl
 
   -- the end of the record, in a further line
-  further-told : (l : List ℕ) (b : Line) → Holds b l → told (afterLine (at b n false) .answer) ≡ further n (l ∷ [])
+  further-told : (l : List ℕ) (b : Line) → Holds b l → told (afterLine (at b n false) .item) ≡ further n (l ∷ [])
   unfolding afterLine afterFurther further
   further-told l b k = rw (lt-leb n 1 (omega arith), line-held b l k) (by (leb n 65535))
     where
-      by : (t : Bool) → told (cond t (fed (at emptyLine (n + 1) false) (item n (lineOf l))) (fed (at emptyLine n true) TooMany) .answer) ≡ cond t (item n (lineOf l) ∷ []) (TooMany ∷ [])
-      by true = told-item n (lineOf l)
+      by : (t : Bool) → told (cond t (fed (at emptyLine (n + 1) false) (lineItem n (lineOf l))) (fed (at emptyLine n true) TooMany) .item) ≡ cond t (lineItem n (lineOf l) ∷ []) (TooMany ∷ [])
+      by true = told-line n (lineOf l)
       by false = refl
 
   further-end : (l : List ℕ) (b : Line) → Holds b l → Unbroken l → run (at b n false) [] ≡ further n (lines l)
@@ -170,11 +173,11 @@ first-line l b k s = rw (names-held b l k) (by (same l names))
     by true = further-all s 2 (omega arith) [] emptyLine holds-empty none′
     by false = rw (run-stopped s emptyLine 2) refl
 
-first-told : (l : List ℕ) (b : Line) → Holds b l → told (afterLine (at b 1 false) .answer) ≡ all (l ∷ [])
+first-told : (l : List ℕ) (b : Line) → Holds b l → told (afterLine (at b 1 false) .item) ≡ all (l ∷ [])
 unfolding afterLine afterFirst all further
 first-told l b k = rw (names-held b l k) (by (same l names))
   where
-    by : (t : Bool) → told (cond t (fed (at emptyLine 2 false) Nothing) (fed (at emptyLine 2 true) BadNames) .answer) ≡ cond t [] (BadNames ∷ [])
+    by : (t : Bool) → told (cond t (fed (at emptyLine 2 false) Nothing) (fed (at emptyLine 2 true) BadNames) .item) ≡ cond t [] (BadNames ∷ [])
     by true = refl
     by false = refl
 
@@ -231,7 +234,7 @@ module _ {A : Type 0} (F : Splitter → List ℕ → A) (G : Fed → List ℕ �
   module _ (s : Splitter) (l r : List ℕ) (i : ℕ) where
     -- What feeding up to the end of a line says of the bytes fed one by one.
     Parted : Type 0
-    Parted = F s (drop i l ++ r) ≡ G (fed (afterPart s l i .splitter) (afterPart s l i .answer)) (drop (afterPart s l i .next) l ++ r)
+    Parted = F s (drop i l ++ r) ≡ G (fed (afterPart s l i .splitter) (afterPart s l i .item)) (drop (afterPart s l i .next) l ++ r)
 
     unended : (t : List ℕ) → drop i l ≡ t → before t ≡ t → Unbroken (before t) → Parted
     unfolding afterPart Parted
@@ -262,12 +265,12 @@ module _ {A : Type 0} (F : Splitter → List ℕ → A) (G : Fed → List ℕ �
             drop-at (before t ++ (10 ∷ [])) u (length (before t) + 1) (length-append (before t) (10 ∷ []))
 
     -- Feeding up to the end of a line, at once, is feeding the bytes one by one.
-    parted : F s (drop i l ++ r) ≡ G (fed (afterPart s l i .splitter) (afterPart s l i .answer)) (drop (afterPart s l i .next) l ++ r)
+    parted : F s (drop i l ++ r) ≡ G (fed (afterPart s l i .splitter) (afterPart s l i .item)) (drop (afterPart s l i .next) l ++ r)
     unfolding Parted Broken
     parted = ⊎-elim (λ e. unended (drop i l) refl e (broken (drop i l) .0)) (λ e. ended (drop i l) (e .0) refl (e .1) (broken (drop i l) .0)) (broken (drop i l) .1)
 
 -- What is told,
-pub run-part : (s : Splitter) (l r : List ℕ) (i : ℕ) → run s (drop i l ++ r) ≡ told (afterPart s l i .answer) ++ run (afterPart s l i .splitter) (drop (afterPart s l i .next) l ++ r)
+pub run-part : (s : Splitter) (l r : List ℕ) (i : ℕ) → run s (drop i l ++ r) ≡ told (afterPart s l i .item) ++ run (afterPart s l i .splitter) (drop (afterPart s l i .next) l ++ r)
 unfolding onward
 run-part s l r i = parted run onward run-byte run-break (λ t x. refl) s l r i
 
@@ -291,32 +294,63 @@ line-over : (s : Splitter) → told (atEnd (afterLine s .splitter)) ≡ []
 unfolding run atEnd pending afterLine afterFirst afterFurther
 line-over s = by (s .stopped) refl
   where
-    further-over : (p : Bool) → leb (s .number) 1 ≡ false → told (atEnd (cond p (fed (at emptyLine (s .number + 1) false) (item (s .number) (lineIn (s .line)))) (fed (at emptyLine (s .number) true) TooMany) .splitter)) ≡ []
+    further-over : (p : Bool) → leb (s .number) 1 ≡ false → told (atEnd (cond p (fed (at emptyLine (s .number + 1) false) (lineItem (s .number) (lineIn (s .line)))) (fed (at emptyLine (s .number) true) TooMany) .splitter)) ≡ []
     further-over true e = let z : 1 < s .number + 1 = omega (arith, leb-false (s .number) 1 e) in rw (lt-leb (s .number + 1) 1 z)
     further-over false e = rw e
 
-    line : (p q : Bool) → leb (s .number) 1 ≡ p → told (atEnd (cond p (cond q (fed (at emptyLine 2 false) Nothing) (fed (at emptyLine 2 true) BadNames)) (cond (leb (s .number) 65535) (fed (at emptyLine (s .number + 1) false) (item (s .number) (lineIn (s .line)))) (fed (at emptyLine (s .number) true) TooMany)) .splitter)) ≡ []
+    line : (p q : Bool) → leb (s .number) 1 ≡ p → told (atEnd (cond p (cond q (fed (at emptyLine 2 false) Nothing) (fed (at emptyLine 2 true) BadNames)) (cond (leb (s .number) 65535) (fed (at emptyLine (s .number + 1) false) (lineItem (s .number) (lineIn (s .line)))) (fed (at emptyLine (s .number) true) TooMany)) .splitter)) ≡ []
     line true true e = refl
     line true false e = refl
     line false q e = further-over (leb (s .number) 65535) e
 
-    by : (p : Bool) → s .stopped ≡ p → told (atEnd (cond p (fed s Nothing) (cond (leb (s .number) 1) (cond (isNamesIn (s .line)) (fed (at emptyLine 2 false) Nothing) (fed (at emptyLine 2 true) BadNames)) (cond (leb (s .number) 65535) (fed (at emptyLine (s .number + 1) false) (item (s .number) (lineIn (s .line)))) (fed (at emptyLine (s .number) true) TooMany))) .splitter)) ≡ []
+    by : (p : Bool) → s .stopped ≡ p → told (atEnd (cond p (fed s Nothing) (cond (leb (s .number) 1) (cond (isNamesIn (s .line)) (fed (at emptyLine 2 false) Nothing) (fed (at emptyLine 2 true) BadNames)) (cond (leb (s .number) 65535) (fed (at emptyLine (s .number + 1) false) (lineItem (s .number) (lineIn (s .line)))) (fed (at emptyLine (s .number) true) TooMany))) .splitter)) ≡ []
     by true e = subst (λ (q : Bool). run (at (s .line) (s .number) q) [] ≡ []) (sym e) (run-stopped [] (s .line) (s .number))
     by false e = line (leb (s .number) 1) (isNamesIn (s .line)) refl
 
 -- A line that is left is told by a newline as by the end of the record, and nothing is left behind it.
-pub pending-told : (s : Splitter) → pending s ≡ true → run s (10 ∷ []) ≡ run s []
+pending-told : (s : Splitter) → pending s ≡ true → run s (10 ∷ []) ≡ run s []
 unfolding run afterByte atEnd
-pending-told s e = rw (e, line-over s, append-nil (told (afterLine s .answer)))
+pending-told s e = rw (e, line-over s, append-nil (told (afterLine s .item)))
 
-pub over-told : (s : Splitter) → run (afterBytes s (10 ∷ [])) [] ≡ []
+over-told : (s : Splitter) → run (afterBytes s (10 ∷ [])) [] ≡ []
 unfolding run afterBytes afterByte
 over-told s = line-over s
 
 -- Where none is left the end tells nothing.
-pub idle-told : (s : Splitter) → pending s ≡ false → run s [] ≡ []
+idle-told : (s : Splitter) → pending s ≡ false → run s [] ≡ []
 unfolding run atEnd
 idle-told s e = rw e
+
+-- So the record's end is the newline that its last line lacks.
+pub last-told : (s : Splitter) → run s (lastNewline s) ≡ run s []
+last-told s = by (pending s) refl
+  where
+    by : (q : Bool) → pending s ≡ q → run s (cond q (10 ∷ []) []) ≡ run s []
+    by true e = pending-told s e
+    by false e = refl
+
+pub last-over : (s : Splitter) → run (afterBytes s (lastNewline s)) [] ≡ []
+unfolding afterBytes
+last-over s = by (pending s) refl
+  where
+    by : (q : Bool) → pending s ≡ q → run (afterBytes s (cond q (10 ∷ []) [])) [] ≡ []
+    by true e = over-told s
+    by false e = idle-told s e
+
+pub last-short : (s : Splitter) → length (lastNewline s) ≤ 1
+last-short s = by (pending s)
+  where
+    by : (q : Bool) → length {A = ℕ} (cond q (10 ∷ []) []) ≤ 1
+    by true = omega arith
+    by false = omega arith
+
+-- a part of a newline
+pub last-part : (s : Splitter) (n : ℕ) → n ≡ length (lastNewline s) → take {A = ℕ} n (10 ∷ []) ≡ lastNewline s
+last-part s n e = rw e (by (pending s))
+  where
+    by : (q : Bool) → take {A = ℕ} (length {A = ℕ} (cond q (10 ∷ []) [])) (10 ∷ []) ≡ cond q (10 ∷ []) []
+    by true = refl
+    by false = refl
 
 before-length : (t : List ℕ) → length (before t) ≤ length t
 unfolding before
@@ -344,3 +378,30 @@ part-next s l i h = by (ltb (i + length (before (drop i l))) (length l)) refl
       omega (arith, ltb-false k (length l) e),
       omega (arith, before-length (drop i l), length-drop i l),
     )
+
+-- What it tells stands at a line that a record may have, or at the one behind the last.
+line-line : (n : ℕ) (o : Option Update) → itemLine (lineItem n o) ≡ n
+line-line n none = refl
+line-line n (some x) = refl
+
+ended-line : (s : Splitter) → itemLine (afterLine s .item) ≤ maxLines + 1
+unfolding afterLine afterFirst afterFurther
+ended-line s = by (s .stopped) (leb (s .number) 1) (isNamesIn (s .line)) (leb (s .number) maxLines) refl
+  where
+    by : (p q r u : Bool) → leb (s .number) maxLines ≡ u → itemLine (cond p (fed s Nothing) (cond q (cond r (fed (at emptyLine 2 false) Nothing) (fed (at emptyLine 2 true) BadNames)) (cond u (fed (at emptyLine (s .number + 1) false) (lineItem (s .number) (lineIn (s .line)))) (fed (at emptyLine (s .number) true) TooMany))) .item) ≤ maxLines + 1
+    by true q r u e = omega arith
+    by false true true u e = omega arith
+    by false true false u e = omega arith
+    by false false r true e = omega (arith, line-line (s .number) (lineIn (s .line)), leb-true (s .number) maxLines e)
+    by false false r false e = omega arith
+
+pub part-line : (s : Splitter) (l : List ℕ) (i : ℕ) → itemLine (afterPart s l i .item) ≤ maxLines + 1
+unfolding afterPart
+part-line s l i = by (ltb (i + length (before (drop i l))) (length l))
+  where
+    t : Splitter
+    t = at (withBytes (s .line) (before (drop i l))) (s .number) (s .stopped)
+
+    by : (q : Bool) → itemLine (cond q (advanced (afterLine t) (i + length (before (drop i l)) + 1)) (advanced (fed t Nothing) (i + length (before (drop i l)))) .item) ≤ maxLines + 1
+    by true = ended-line t
+    by false = omega arith

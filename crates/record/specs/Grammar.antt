@@ -36,11 +36,11 @@ unfoldable pub behind : ℕ → List ℕ → Option (List ℕ)
 behind b [] = none
 behind b (c ∷ l) = cond (eqb c b) (some l) none
 
-infixl 20 _>>=_
+infixl 20 _andThen_
 -- Where the first reading fails, all fails; else the second goes on with what was read.
-abbrev pub _>>=_ : {A B : Type 0} → Option A → (A → Option B) → Option B
-_>>=_ none f = none
-_>>=_ (some a) f = f a
+abbrev pub _andThen_ : {A B : Type 0} → Option A → (A → Option B) → Option B
+_andThen_ none f = none
+_andThen_ (some a) f = f a
 
 -- The line ends here.
 abbrev pub whole : Update → List ℕ → Option Update
@@ -49,21 +49,21 @@ whole x (b ∷ l) = none
 
 -- "`E 3 4` a step": `to` is a value.
 unfoldable pub step : ℕ → List ℕ → Option Update
-step from l = value l >>= λ to. whole (Step from (to .number)) (to .rest)
+step from l = value l andThen λ to. whole (Step from (to .number)) (to .rest)
 
 -- "`T 3 -` a terminal mark, `C 3 -` a close": "`to` is `-` exactly for T and C."
-unfoldable pub mark : Update → List ℕ → Option Update
-mark x l = behind 45 l >>= whole x
+unfoldable pub markWith : Update → List ℕ → Option Update
+markWith x l = behind 45 l andThen whole x
 
 -- By the kind, E, T or C: the update from a value, with the bytes of `to`.
 unfoldable pub update : ℕ → ℕ → List ℕ → Option Update
 update kind from to =
-    cond (eqb kind 69) (step from to) (cond (eqb kind 84) (mark (Terminal from) to) (cond (eqb kind 67) (mark (Close from) to) none))
+    cond (eqb kind 69) (step from to) (cond (eqb kind 84) (markWith (Terminal from) to) (cond (eqb kind 67) (markWith (Close from) to) none))
 
 -- The kind, a space, a value, a space, and `to`: "one space between".
 unfoldable pub fields : List ℕ → Option Update
 fields [] = none
-fields (kind ∷ l) = behind 32 l >>= value >>= λ from. behind 32 (from .rest) >>= update kind (from .number)
+fields (kind ∷ l) = behind 32 l andThen value andThen λ from. behind 32 (from .rest) andThen update kind (from .number)
 
 -- "A line of more than 16 bytes, a blank line or a carriage return is malformed."
 unfoldable pub lineOf : List ℕ → Option Update

@@ -6,8 +6,8 @@ use mathlib.Core.Option.{Option, some, none}
 use Prim.Native.Nat.{ℕ, _+_}
 use lib.Dec.{leb, eqb}
 use Rattle.gid.specs.declared.Update.{Update}
-use Rattle.record.specs.declared.splitter.Answer.{Answer}
-use Rattle.record.specs.declared.splitter.Answer.the-variants.{Nothing, Update as Read, Malformed, BadNames, TooMany}
+use Rattle.record.specs.declared.splitter.Item.{Item}
+use Rattle.record.specs.declared.splitter.Item.the-variants.{Nothing, Update as Read, Malformed, BadNames, TooMany}
 use Rattle.record.specs.Text.{names}
 use Rattle.record.specs.Grammar.{lineOf}
 use Rattle.record.specs.Lines.{lines}
@@ -20,35 +20,39 @@ same (x ∷ l) [] = false
 same (x ∷ l) (y ∷ m) = eqb x y && same l m
 
 -- "A line that has been read is kept as its line number with one of the three kinds of update." "11: a line is malformed."
-abbrev pub item : ℕ → Option Update → Answer
-item n none = Malformed n
-item n (some x) = Read (record { line = n; update = x })
+abbrev pub lineItem : ℕ → Option Update → Item
+lineItem n none = Malformed n
+lineItem n (some x) = Read (record { line = n; update = x })
+
+-- The last line that a record may have.
+abbrev pub maxLines : ℕ
+maxLines = 65535
 
 -- The lines from number n on, behind the names line. "12: line 65,536 exists, malformed or not (tested before 11). Reading stops there." "11: .. It is skipped and reading goes on."
-unfoldable pub further : ℕ → List (List ℕ) → List Answer
+unfoldable pub further : ℕ → List (List ℕ) → List Item
 further n [] = []
-further n (l ∷ ls) = cond (leb n 65535) (item n (lineOf l) ∷ further (n + 1) ls) (TooMany ∷ [])
+further n (l ∷ ls) = cond (leb n maxLines) (lineItem n (lineOf l) ∷ further (n + 1) ls) (TooMany ∷ [])
 
 -- "10: the names line is not exact. Reading stops." "Empty input lacks its names line."
-unfoldable pub all : List (List ℕ) → List Answer
+unfoldable pub all : List (List ℕ) → List Item
 all [] = BadNames ∷ []
 all (l ∷ ls) = cond (same l names) (further 2 ls) (BadNames ∷ [])
 
 -- What a record's lines are, in order.
-unfoldable pub items : List ℕ → List Answer
+unfoldable pub items : List ℕ → List Item
 items s = all (lines s)
 
--- The number of a refusal, and the line that it stands at.
-abbrev pub refusalOf : Answer → Option ℕ
-refusalOf Nothing = none
-refusalOf (Read x) = none
-refusalOf (Malformed n) = some 11
-refusalOf BadNames = some 10
-refusalOf TooMany = some 12
+-- Document 01's number for an item, none for an update, and the line that it stands at.
+abbrev pub itemNumber : Item → Option ℕ
+itemNumber Nothing = none
+itemNumber (Read x) = none
+itemNumber (Malformed n) = some 11
+itemNumber BadNames = some 10
+itemNumber TooMany = some 12
 
-abbrev pub placeOf : Answer → ℕ
-placeOf Nothing = 0
-placeOf (Read x) = x .line
-placeOf (Malformed n) = n
-placeOf BadNames = 1
-placeOf TooMany = 65536
+abbrev pub itemLine : Item → ℕ
+itemLine Nothing = 0
+itemLine (Read x) = x .line
+itemLine (Malformed n) = n
+itemLine BadNames = 1
+itemLine TooMany = maxLines + 1

@@ -1,8 +1,9 @@
--- What a record is. Read in this order: the first four are document 01's words; the others say what the code's values stand for.
+-- What a record is. This is what a reader believes, in document 01's words:
 pub mod Text
 pub mod Grammar
 pub mod Lines
 pub mod Items
+-- Inner contracts: what the code's values stand for. proofs/Splitting.antt proves that what the splitter tells is the record's items.
 pub mod Buffer
 pub mod Parsing
 pub mod Splitting

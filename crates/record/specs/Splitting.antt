@@ -1,4 +1,4 @@
--- The splitter's steps: what a byte and the end of the record do. proofs/Splitting.antt proves that the answers are the items of the record.
+-- The splitter's steps: what a byte and the end of the record do. proofs/Splitting.antt proves that what is told is the items of the record.
 -- Assumes nothing.
 use mathlib.Core.Bool.{Bool, true, false, cond}
 use mathlib.Core.List.{List, [], _∷_, _++_}
@@ -8,22 +8,22 @@ use lib.ListN.{length}
 use Rattle.record.specs.declared.line.Line.{Line}
 use Rattle.record.specs.declared.grammar.Parsed.{Parsed}
 use Rattle.record.specs.declared.grammar.Parsed.the-variants.{Update as IsUpdate, Malformed as IsMalformed}
-use Rattle.record.specs.declared.splitter.Answer.{Answer}
-use Rattle.record.specs.declared.splitter.Answer.the-variants.{Nothing, Update as Read, Malformed, BadNames, TooMany}
+use Rattle.record.specs.declared.splitter.Item.{Item}
+use Rattle.record.specs.declared.splitter.Item.the-variants.{Nothing, Update as Read, Malformed, BadNames, TooMany}
 use Rattle.record.specs.declared.splitter.Splitter.{Splitter}
 use Rattle.record.specs.declared.splitter.Fed.{Fed}
 use Rattle.record.specs.declared.splitter.Advanced.{Advanced}
-use Rattle.record.specs.Items.{item}
+use Rattle.record.specs.Items.{lineItem, maxLines}
 use Rattle.record.specs.Buffer.{emptyLine, withByte, filledFrom, lineIn, isNamesIn}
 
 abbrev pub at : Line → ℕ → Bool → Splitter
 at l n stopped = record { line = l; number = n; stopped = stopped }
 
-abbrev pub fed : Splitter → Answer → Fed
-fed s a = record { splitter = s; answer = a }
+abbrev pub fed : Splitter → Item → Fed
+fed s a = record { splitter = s; item = a }
 
 abbrev pub advanced : Fed → ℕ → Advanced
-advanced f i = record { splitter = f .splitter; answer = f .answer; next = i }
+advanced f i = record { splitter = f .splitter; item = f .item; next = i }
 
 abbrev pub started : Splitter
 started = at emptyLine 1 false
@@ -34,7 +34,7 @@ afterFirst l = cond (isNamesIn l) (fed (at emptyLine 2 false) Nothing) (fed (at 
 
 -- A further line has ended.
 unfoldable pub afterFurther : Line → ℕ → Fed
-afterFurther l n = cond (leb n 65535) (fed (at emptyLine (n + 1) false) (item n (lineIn l))) (fed (at emptyLine n true) TooMany)
+afterFurther l n = cond (leb n maxLines) (fed (at emptyLine (n + 1) false) (lineItem n (lineIn l))) (fed (at emptyLine n true) TooMany)
 
 unfoldable pub afterLine : Splitter → Fed
 afterLine s = cond (s .stopped) (fed s Nothing) (cond (leb (s .number) 1) (afterFirst (s .line)) (afterFurther (s .line) (s .number)))
@@ -53,11 +53,15 @@ afterPart s l i =
 unfoldable pub pending : Splitter → Bool
 pending s = cond (eqb (s .line .len) 0) (leb (s .number) 1) true
 
-unfoldable pub atEnd : Splitter → Answer
-atEnd s = cond (pending s) (afterLine s .answer) Nothing
+-- The newline that the last line of a record lacks, if one is left.
+abbrev pub lastNewline : Splitter → List ℕ
+lastNewline s = cond (pending s) (10 ∷ []) []
 
--- An answer that says something.
-abbrev pub told : Answer → List Answer
+unfoldable pub atEnd : Splitter → Item
+atEnd s = cond (pending s) (afterLine s .item) Nothing
+
+-- An item that says something.
+abbrev pub told : Item → List Item
 told Nothing = []
 told (Read x) = Read x ∷ []
 told (Malformed n) = Malformed n ∷ []
@@ -65,15 +69,15 @@ told BadNames = BadNames ∷ []
 told TooMany = TooMany ∷ []
 
 -- All that is told while bytes are fed one by one, and at the end.
-unfoldable pub run : Splitter → List ℕ → List Answer
+unfoldable pub run : Splitter → List ℕ → List Item
 run s [] = told (atEnd s)
-run s (b ∷ l) = told (afterByte s b .answer) ++ run (afterByte s b .splitter) l
+run s (b ∷ l) = told (afterByte s b .item) ++ run (afterByte s b .splitter) l
 
 -- The splitter after bytes that were fed one by one.
 unfoldable pub afterBytes : Splitter → List ℕ → Splitter
 afterBytes s [] = s
 afterBytes s (b ∷ l) = afterBytes (afterByte s b .splitter) l
 
-abbrev pub answered : Parsed → ℕ → Answer
-answered (IsUpdate x) n = Read (record { line = n; update = x })
-answered IsMalformed n = Malformed n
+abbrev pub itemOf : Parsed → ℕ → Item
+itemOf (IsUpdate x) n = Read (record { line = n; update = x })
+itemOf IsMalformed n = Malformed n

@@ -2,7 +2,7 @@
 ghost use mathlib.Core.Path.{_≡_};
 ghost use Prim.Native.Nat.{ℕ, _≤_, _<_};
 ghost use lib.ListN.{length, drop};
-ghost use Rattle.record.specs.Grammar.{digits, value, behind, step, mark, lineOf};
+ghost use Rattle.record.specs.Grammar.{digits, value, behind, step, markWith, lineOf};
 ghost use Rattle.record.specs.Buffer.{lineIn};
 ghost use Rattle.record.specs.Parsing.{parsed, digitOf, front, rest};
 use crate::line::Line;
@@ -89,7 +89,7 @@ fn parse_step(s: &[u8], at: usize, from: usize) -> Parsed
 
 // The `to` of a terminal mark or a close: a dash up to the line's end.
 fn parse_mark(s: &[u8], at: usize, update: Update) -> Parsed
-    ensures { λ r. ⌜ r ≡ parsed (mark update (drop at (now (s .entry)))) ⌝ }
+    ensures { λ r. ⌜ r ≡ parsed (markWith update (drop at (now (s .entry)))) ⌝ }
 {
     if s.len() <= at {
         return Parsed::Malformed;

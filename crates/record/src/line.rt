@@ -1,7 +1,7 @@
 // The line buffer: "The reader collects each line in its own 16 bytes before judging it."
 ghost use mathlib.Core.Path.{_≡_};
 ghost use Rattle.record.specs.Items.{same};
-ghost use Rattle.record.specs.Buffer.{emptyLine, withByte, filledFrom, isNamesIn};
+ghost use Rattle.record.specs.Buffer.{emptyLine, filledFrom, isNamesIn};
 
 pub struct Line {
     // The line's bytes, the first 16 of them.
@@ -26,22 +26,7 @@ impl Line {
         }
     }
 
-    // The line with one byte more.
-    pub fn with(self, b: u8) -> Line
-        ensures { λ r. ⌜ r ≡ withByte self b ⌝ }
-    {
-        let at = self.len;
-        let mut next = self;
-        if 16 <= at {
-            next.len = 17;
-            return next;
-        }
-        next.bytes[at] = b;
-        next.len = at + 1;
-        next
-    }
-
-    // The line with the bytes of s from an index on, up to a newline or the end of s.
+    // The line with the bytes of s from an index on, up to a newline or the end of s, one by one: the first 16 are kept.
     pub fn filled(self, s: &[u8], at: usize) -> Filled
         ensures { λ r. ⌜ r ≡ filledFrom self (now (s .entry)) at ⌝ }
     {

@@ -1,12 +1,19 @@
-// The splitter: it is fed a record byte by byte, and answers what each line is as the line ends.
+// The splitter: it is fed a record in parts of any length, and answers what each line is as the line ends.
 ghost use mathlib.Core.Path.{_≡_};
-ghost use Rattle.record.specs.Splitting.{started, afterFirst, afterFurther, afterLine, afterByte, afterPart, pending, atEnd, answered};
+ghost use Rattle.record.specs.Splitting.{started, afterFirst, afterFurther, afterLine, afterPart, pending, lastNewline, itemOf};
+ghost use lib.ListN.{length};
 use crate::grammar::Parsed;
 use crate::line::Line;
 use gid::Update;
 
+// "10: the names line is not exact."
+pub const BAD_NAMES: u8 = 10;
+// "11: a line is malformed."
+pub const MALFORMED: u8 = 11;
 // "12: line 65,536 exists"
-const MAX_LINES: usize = 65535;
+pub const TOO_MANY_LINES: u8 = 12;
+
+pub const MAX_LINES: usize = 65535;
 
 // "A line that has been read is kept as its line number with one of the three kinds of update."
 pub struct Numbered {
@@ -14,16 +21,16 @@ pub struct Numbered {
     pub update: Update,
 }
 
-// What a byte, or the end of the record, makes known.
-pub enum Answer {
+// What the bytes fed make known.
+pub enum Item {
     // No line has ended, or reading has stopped.
     Nothing,
     Update(Numbered),
-    // 11, with its line number.
+    // MALFORMED, with its line number.
     Malformed(usize),
-    // 10, at line 1.
+    // BAD_NAMES, at line 1.
     BadNames,
-    // 12, at line 65,536.
+    // TOO_MANY_LINES, at line 65,536.
     TooMany,
 }
 
@@ -36,16 +43,16 @@ pub struct Splitter {
     pub stopped: bool,
 }
 
-// The splitter comes back beside the answer.
-pub struct Fed {
+// The splitter comes back beside what is known.
+struct Fed {
     pub splitter: Splitter,
-    pub answer: Answer,
+    pub item: Item,
 }
 
 // The same, with the index up to which bytes were fed.
 pub struct Advanced {
     pub splitter: Splitter,
-    pub answer: Answer,
+    pub item: Item,
     pub next: usize,
 }
 
@@ -60,27 +67,7 @@ impl Splitter {
         }
     }
 
-    pub fn feed(self, b: u8) -> Fed
-        ensures { λ r. ⌜ r ≡ afterByte self b ⌝ }
-    {
-        match b {
-            b'\n' => self.ended(),
-            _ => {
-                let line = self.line;
-                let longer = line.with(b);
-                Fed {
-                    splitter: Splitter {
-                        line: longer,
-                        number: self.number,
-                        stopped: self.stopped,
-                    },
-                    answer: Answer::Nothing,
-                }
-            }
-        }
-    }
-
-    // The bytes of s from an index on, up to the end of a line or of s. It is `feed` for each of them, without a copy of the line for each.
+    // Feeds the bytes of s from an index on, up to the end of a line or of s.
     pub fn feed_line(self, s: &[u8], at: usize) -> Advanced
         ensures { λ r. ⌜ r ≡ afterPart self (now (s .entry)) at ⌝ }
     {
@@ -96,22 +83,22 @@ impl Splitter {
         if next < s.len() {
             let fed = splitter.ended();
             let after = fed.splitter;
-            let answer = fed.answer;
+            let item = fed.item;
             return Advanced {
                 splitter: after,
-                answer,
+                item,
                 next: next + 1,
             };
         }
         Advanced {
             splitter,
-            answer: Answer::Nothing,
+            item: Item::Nothing,
             next,
         }
     }
 
     // Whether a line is left that the end of the record ends: "A missing last newline makes no difference. Empty input lacks its names line."
-    pub fn pending(self) -> bool
+    fn pending(self) -> bool
         ensures { λ r. ⌜ r ≡ pending self ⌝ }
     {
         let line = self.line;
@@ -121,15 +108,11 @@ impl Splitter {
         true
     }
 
-    // The end of the record.
-    pub fn finish(self) -> Answer
-        ensures { λ r. ⌜ r ≡ atEnd self ⌝ }
+    // How many newlines the record's last line lacks: one where a line is left.
+    pub fn lacking(self) -> usize
+        ensures { λ r. ⌜ r ≡ length (lastNewline self) ⌝ }
     {
-        if self.pending() {
-            let fed = self.ended();
-            return fed.answer;
-        }
-        Answer::Nothing
+        if self.pending() { 1 } else { 0 }
     }
 
     // The line has ended.
@@ -139,7 +122,7 @@ impl Splitter {
         if self.stopped {
             return Fed {
                 splitter: self,
-                answer: Answer::Nothing,
+                item: Item::Nothing,
             };
         }
         let line = self.line;
@@ -161,7 +144,7 @@ fn first_line(line: Line) -> Fed
                 number: 2,
                 stopped: false,
             },
-            answer: Answer::Nothing,
+            item: Item::Nothing,
         }
     } else {
         Fed {
@@ -170,7 +153,7 @@ fn first_line(line: Line) -> Fed
                 number: 2,
                 stopped: true,
             },
-            answer: Answer::BadNames,
+            item: Item::BadNames,
         }
     }
 }
@@ -185,7 +168,7 @@ fn further_line(line: Line, number: usize) -> Fed
                 number: number,
                 stopped: true,
             },
-            answer: Answer::TooMany,
+            item: Item::TooMany,
         };
     }
     Fed {
@@ -194,18 +177,18 @@ fn further_line(line: Line, number: usize) -> Fed
             number: number + 1,
             stopped: false,
         },
-        answer: answer_of(line.parse(), number),
+        item: item_of(line.parse(), number),
     }
 }
 
-fn answer_of(parsed: Parsed, number: usize) -> Answer
-    ensures { λ r. ⌜ r ≡ answered parsed number ⌝ }
+fn item_of(parsed: Parsed, number: usize) -> Item
+    ensures { λ r. ⌜ r ≡ itemOf parsed number ⌝ }
 {
     match parsed {
-        Parsed::Update(update) => Answer::Update(Numbered {
+        Parsed::Update(update) => Item::Update(Numbered {
             line: number,
             update,
         }),
-        Parsed::Malformed => Answer::Malformed(number),
+        Parsed::Malformed => Item::Malformed(number),
     }
 }

@@ -1,4 +1,4 @@
-// Text: bytes, decimal numbers and the lines of a record, each written at the front of a lent buffer. Each call returns the length of what it wrote.
+// Text: bytes, decimal numbers and the lines of a record, each written at the front of a lent buffer, or at a place of it. A call returns the length of what it wrote, or the place after it.
 ghost use mathlib.Core.Path.{_≡_};
 ghost use mathlib.Core.List.{List, [], _∷_, _++_};
 ghost use Prim.Native.Nat.{ℕ, _≤_, _<_, _+_};
@@ -93,8 +93,15 @@ fn put_head(buf: &mut [u8], kind: u8, from: usize) -> usize
     at + 1
 }
 
-// The rest of the buffer is lent to the number's text. Returns the place after it.
-fn put_number_at(buf: &mut [u8], at: usize, value: usize) -> usize
+// At a place: the rest of the buffer is lent to the text.
+pub fn put_bytes_at(buf: &mut [u8], at: usize, s: &[u8]) -> usize
+    requires { ⌜ at + length (now s) ≤ length (now buf) ⌝ }
+    ensures { λ r. ⌜ WroteAt at (now (s .entry)) (now (buf .entry)) (now (buf .exit)) r ⌝ }
+{
+    at + put_bytes(&mut buf[at..], s)
+}
+
+pub fn put_number_at(buf: &mut [u8], at: usize, value: usize) -> usize
     requires { ⌜ at + length (decimal value) ≤ length (now buf) ⌝ }
     ensures { λ r. ⌜ WroteAt at (decimal value) (now (buf .entry)) (now (buf .exit)) r ⌝ }
 {

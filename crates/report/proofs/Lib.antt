@@ -1,4 +1,7 @@
--- The laws of the listing's definitions.
+-- The laws of the listing.
 pub mod Placing
 pub mod Saying
+pub mod Beginning
+pub mod Lining
+pub mod Tasks
 pub mod Session

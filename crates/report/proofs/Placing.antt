@@ -1,66 +1,23 @@
--- Texts written one behind another at a place of a buffer, and the room that they take.
+-- The texts of a listing at a place of a buffer, and the room that they take.
 -- Assumes nothing.
-use mathlib.Core.Path.{_≡_, refl, sym, _∙_, ap}
+use mathlib.Core.Path.{_≡_, refl, sym}
 use mathlib.Core.Bool.{Bool, true, false, cond}
 use mathlib.Core.List.{List, [], _∷_, _++_, append-assoc, append-nil}
-use Prim.Native.Nat.{ℕ, zero, suc, _+_, _-_, _*_, _≤_, _<_}
+use Prim.Native.Nat.{ℕ, zero, suc, _+_, _*_, _≤_, _<_}
 use native.Mathlib.Omega.{arith}
 use native.Mathlib.Decide.{decLt}
 use native.Mathlib.Numerals.{add-one}
 use lib.Dec.{eqb}
 use mir.Val.{boolByte}
-use lib.ListN.{length, getD, take, drop, set, length-append, length-drop, length-take, drop-of-length-le, List·getD-eq-default}
-use lib.Seq.{take-suc, length-take-le, take-at, drop-at, drop-drop, drop-cons, set-at, take-all, getD-take}
+use lib.ListN.{length, getD, take, length-append, List·getD-eq-default}
+use lib.Seq.{take-suc, length-take-le, getD-take}
 use Rattle.gid.specs.News.{below}
-use Rattle.record.specs.Text.{decimal, Wrote, WroteAt}
+use Rattle.record.specs.Text.{decimal, WroteAt}
 use Rattle.record.proofs.Decimals.{five-digits}
-use Rattle.record.proofs.Writing.{wrote-then, wrote-at, wrote-length, lent-back}
+use Rattle.record.proofs.Placing.{placed-then}
+use Rattle.reader.specs.Opening.{readerStates}
 use Rattle.report.specs.declared.totals.Totals.{Totals}
 use Rattle.report.specs.Texts.{openWord, unknownWord, endLiveWord, endDeadWord, ending, row, newsText, verdictWord, having, totalsOf, totalsText}
-
--- a text at a place is a text at the front, behind what stood there
-pub to-front : (at : ℕ) (t d e : List ℕ) (r : ℕ) → at ≤ length d → WroteAt at t d e r → Wrote (take at d ++ t) d e r
-to-front at t d e r h w =
-    let n : length (take at d ++ t) ≡ at + length t = length-append (take at d) t ∙ (rw (length-take-le at d h) refl) in
-    record {
-      bytes = w .bytes ∙ sym (append-assoc (take at d) t (drop (at + length t) d)) ∙ ap (λ (k : ℕ). take at d ++ t ++ drop k d) (sym n);
-      count = w .after ∙ sym n;
-    }
-
-pub from-front : (at : ℕ) (t d e : List ℕ) (r : ℕ) → at ≤ length d → Wrote (take at d ++ t) d e r → WroteAt at t d e r
-from-front at t d e r h w =
-    let n : length (take at d ++ t) ≡ at + length t = length-append (take at d) t ∙ (rw (length-take-le at d h) refl) in
-    record {
-      bytes = w .bytes ∙ ap (λ (k : ℕ). take at d ++ t ++ drop k d) n ∙ append-assoc (take at d) t (drop (at + length t) d);
-      after = w .count ∙ n;
-    }
-
--- one text behind another
-pub placed-then : (at : ℕ) (t u d e f : List ℕ) (r k : ℕ) → WroteAt at t d e r → WroteAt r u e f k → at + length t + length u ≤ length d → WroteAt at (t ++ u) d f k
-placed-then at t u d e f r k w a h =
-    let p : at ≤ length d = omega arith in
-    let n : length (take at d ++ t) ≡ at + length t = length-append (take at d) t ∙ (rw (length-take-le at d p) refl) in
-    from-front at (t ++ u) d f k p
-    (rw (← append-assoc (take at d) t u) (wrote-at (take at d ++ t) u d e f r k (to-front at t d e r p w) a (omega arith)))
-
--- one byte behind a text
-pub placed-byte : (at : ℕ) (t d e : List ℕ) (r b : ℕ) → WroteAt at t d e r → at + length t < length d → WroteAt at (t ++ (b ∷ [])) d (set e r b) (r + 1)
-placed-byte at t d e r b w h =
-    let p : at ≤ length d = omega arith in
-    let n : length (take at d ++ t) ≡ at + length t = length-append (take at d) t ∙ (rw (length-take-le at d p) refl) in
-    from-front at (t ++ (b ∷ [])) d (set e r b) (r + 1) p
-    (rw (← append-assoc (take at d) t (b ∷ [])) (wrote-then (take at d ++ t) d e r b (to-front at t d e r p w) (omega arith)))
-
--- nothing written
-pub placed-none : (at : ℕ) (d : List ℕ) → WroteAt at [] d d at
-placed-none at d =
-    let z : at ≡ at + 0 = omega arith in
-    record { bytes = sym (take-drop at d) ∙ ap (λ (k : ℕ). take at d ++ drop k d) z; after = z }
-  where
-    take-drop : (n : ℕ) (l : List ℕ) → take n l ++ drop n l ≡ l
-    take-drop zero l = refl
-    take-drop (suc n) [] = refl
-    take-drop (suc n) (x ∷ l) = ap (λ (m : List ℕ). x ∷ m) (take-drop n l)
 
 pub ending-length : (word : List ℕ) (n : ℕ) → length (ending word n) ≡ length word + length (decimal n) + 1
 unfolding ending
@@ -149,7 +106,7 @@ pub record Small (t : Totals) : Type 0 where
 
 pub totals-small : (f : ℕ → ℕ) (t : Totals) → t ≡ totalsOf f → Small t
 totals-small f t e =
-    rw e (record { opens = having-few 2048 f 1; unknowns = having-few 2048 f 2; lives = having-few 2048 f 3; deads = having-few 2048 f 4 })
+    rw e (record { opens = having-few readerStates f 1; unknowns = having-few readerStates f 2; lives = having-few readerStates f 3; deads = having-few readerStates f 4 })
 
 pub totals-placed : (at : ℕ) (t : Totals) → Small t → (d e₁ e₂ e₃ e₄ : List ℕ) (r₁ r₂ r₃ r₄ : ℕ) → at + 80 ≤ length d → WroteAt at (ending openWord (t .«open»)) d e₁ r₁ → WroteAt r₁ (ending unknownWord (t .unknown)) e₁ e₂ r₂ → WroteAt r₂ (ending endLiveWord (t .live)) e₂ e₃ r₃ → WroteAt r₃ (ending endDeadWord (t .dead)) e₃ e₄ r₄ → WroteAt at (totalsText t) d e₄ r₄
 unfolding totalsText
@@ -171,16 +128,12 @@ totals-placed at t s d e₁ e₂ e₃ e₄ r₁ r₂ r₃ r₄ h p q u v =
 pub totals-room : (f : ℕ → ℕ) → length (totalsText (totalsOf f)) ≤ 80
 unfolding totalsText
 totals-room f =
-    let a = ending openWord (having 2048 f 1) in
-    let b = ending unknownWord (having 2048 f 2) in
-    let c = ending endLiveWord (having 2048 f 3) in
-    let z = ending endDeadWord (having 2048 f 4) in
-    let i = ending-room openWord (having 2048 f 1) (omega (arith, having-few 2048 f 1)) in
-    let j = ending-room unknownWord (having 2048 f 2) (omega (arith, having-few 2048 f 2)) in
-    let k = ending-room endLiveWord (having 2048 f 3) (omega (arith, having-few 2048 f 3)) in
-    let l = ending-room endDeadWord (having 2048 f 4) (omega (arith, having-few 2048 f 4)) in
+    let a = ending openWord (having readerStates f 1) in
+    let b = ending unknownWord (having readerStates f 2) in
+    let c = ending endLiveWord (having readerStates f 3) in
+    let z = ending endDeadWord (having readerStates f 4) in
+    let i = ending-room openWord (having readerStates f 1) (omega (arith, having-few readerStates f 1)) in
+    let j = ending-room unknownWord (having readerStates f 2) (omega (arith, having-few readerStates f 2)) in
+    let k = ending-room endLiveWord (having readerStates f 3) (omega (arith, having-few readerStates f 3)) in
+    let l = ending-room endDeadWord (having readerStates f 4) (omega (arith, having-few readerStates f 4)) in
     omega (arith, length-append (a ++ b ++ c) z, length-append (a ++ b) c, length-append a b)
-
--- one text behind another, by where the second ends
-pub placed-on : {at : ℕ} {t u d e f : List ℕ} {r k : ℕ} → WroteAt at t d e r → WroteAt r u e f k → k ≤ length d → WroteAt at (t ++ u) d f k
-placed-on {at} {t} {u} {d} {e} {f} {r} {k} w v h = placed-then at t u d e f r k w v (omega (arith, w .after, v .after))

@@ -1,81 +1,38 @@
--- What a line's text says: by the tables after it, and by the definitions.
+-- What the text of lines says: by the tables after each, and by the definitions.
 -- Assumes nothing.
-use mathlib.Core.Path.{_≡_, refl, sym, _∙_, ap, subst}
-use mathlib.Core.Bool.{Bool, true, false, not, cond, _&&_}
+use mathlib.Core.Path.{_≡_, refl, sym, _∙_, ap}
+use mathlib.Core.Bool.{Bool, true, false, not, false≢true}
 use mathlib.Core.List.{List, [], _∷_, _++_, append-assoc, append-nil, List·Memᴰ, List·Memᴰ·head, List·Memᴰ·tail}
-use mathlib.Core.Option.{Option, some, none}
-use Prim.Native.Nat.{ℕ, _+_, _≤_, _<_}
+use mathlib.Core.Option.{some}
+use Prim.Native.Nat.{ℕ, _<_}
 use native.Mathlib.Omega.{arith}
-use lib.Dec.{leb, ltb, eqb}
-use lib.ListN.{length, getD, take, drop}
-use borrow.Author.Tests.{leb-true}
-use Rattle.gid.specs.declared.Update.{Update}
+use lib.Dec.{eqb}
+use lib.ListN.{getD, take}
+use borrow.Author.Tests.{eqb-true}
 use Rattle.gid.specs.Histories.{History}
 use Rattle.gid.specs.Statuses.{status}
 use Rattle.gid.specs.News.{below}
-use Rattle.gid.specs.Outcomes.{Outcome, refused, accepted, outcome, after}
+use Rattle.gid.specs.Outcomes.{Outcome, refused, accepted}
 use Rattle.gid.proofs.News.{below-same}
 use Rattle.tables.specs.declared.Graph.{Graph}
 use Rattle.tables.specs.Tables.{Tables}
-use Rattle.tables.proofs.Refusing.{accepted-passes}
-use Rattle.engine.proofs.Promising.{room-of}
+use Rattle.engine.specs.declared.Answer.{Answer}
+use Rattle.engine.specs.declared.Answer.the-variants.{Accepted as Yes, Refused as No}
+use Rattle.engine.specs.Promise.{Promise}
 use Rattle.engine.proofs.Running.{was-accepted}
-use Rattle.record.specs.declared.line.Line.{Line}
-use Rattle.record.specs.declared.splitter.Answer.{Answer}
-use Rattle.record.specs.declared.splitter.Answer.the-variants.{Nothing, Update as Read, Malformed, BadNames, TooMany}
-use Rattle.record.specs.declared.splitter.Splitter.{Splitter}
-use Rattle.record.specs.Lines.{before}
-use Rattle.record.specs.Buffer.{emptyLine, withBytes, lineIn, isNamesIn}
-use Rattle.record.specs.Items.{item, placeOf}
-use Rattle.record.specs.Splitting.{at, fed, advanced, afterFirst, afterFurther, afterLine, afterPart, told}
-use Rattle.reader.specs.declared.Outcome.{Outcome as Came′}
-use Rattle.reader.specs.Turning.{Came, nothing, took, turned, malformed, badNames, tooMany}
-use Rattle.reader.specs.declared.Outcome.the-variants.{Accepted as Took, Refused as Turned}
-use Rattle.reader.specs.Replaying.{outcomeOf, afterItem}
+use Rattle.record.specs.declared.splitter.Item.{Item}
+use Rattle.reader.specs.declared.driver.LineAnswer.{LineAnswer}
+use Rattle.reader.specs.declared.driver.LineAnswer.the-variants.{Nothing, Accepted, Refused}
+use Rattle.reader.specs.declared.driver.Until.the-variants.{News}
+use Rattle.reader.specs.Opening.{readerStates}
+use Rattle.reader.specs.Turning.{Told, lineOutcome, lineAnswer, Came, sent, nothing, malformed, badNames, tooMany}
+use Rattle.reader.specs.Replaying.{outcomeOf, afterItem, afterItems}
 use Rattle.reader.specs.Standing.{Standing}
-use Rattle.reader.proofs.Lines.{Tells, line-taken, line-refused, line-right}
-use Rattle.report.specs.Texts.{newsText, refusedText, totalsOf, totalsText}
-use Rattle.report.specs.Listing.{outcomeText, lineText, printed}
-use Rattle.report.specs.Printing.{tableText, tableTotals, Printable}
-
--- line numbers have at most five digits
-item-place : (n : ℕ) (o : Option Update) → placeOf (item n o) ≡ n
-item-place n none = refl
-item-place n (some x) = refl
-
-line-place : (s : Splitter) → placeOf (afterLine s .answer) ≤ 65536
-unfolding afterLine afterFirst afterFurther
-line-place s = by (s .stopped) (leb (s .number) 1) (isNamesIn (s .line)) (leb (s .number) 65535) refl
-  where
-    by : (p q r u : Bool) → leb (s .number) 65535 ≡ u → placeOf (cond p (fed s Nothing) (cond q (cond r (fed (at emptyLine 2 false) Nothing) (fed (at emptyLine 2 true) BadNames)) (cond u (fed (at emptyLine (s .number + 1) false) (item (s .number) (lineIn (s .line)))) (fed (at emptyLine (s .number) true) TooMany))) .answer) ≤ 65536
-    by true q r u e = omega arith
-    by false true true u e = omega arith
-    by false true false u e = omega arith
-    by false false r true e = omega (arith, item-place (s .number) (lineIn (s .line)), leb-true (s .number) 65535 e)
-    by false false r false e = omega arith
-
-pub part-place : (s : Splitter) (l : List ℕ) (i : ℕ) → placeOf (afterPart s l i .answer) ≤ 65536
-unfolding afterPart
-part-place s l i = by (ltb (i + length (before (drop i l))) (length l))
-  where
-    t : Splitter
-    t = at (withBytes (s .line) (before (drop i l))) (s .number) (s .stopped)
-
-    by : (q : Bool) → placeOf (cond q (advanced (afterLine t) (i + length (before (drop i l)) + 1)) (advanced (fed t Nothing) (i + length (before (drop i l)))) .answer) ≤ 65536
-    by true = line-place t
-    by false = omega arith
-
--- what came of a line can be printed
-pub printable : {a : Answer} {g g′ : Graph} {t t′ : Tables} {o : Came′} → Came a g t g′ t′ o → placeOf a ≤ 65536 → Printable o (t′ .news)
-printable nothing h = tt
-printable (took {r = r} {g = g} {t = t} p) h =
-    let w = was-accepted p in
-    let m = room-of g t (accepted-passes g t (r .update) (w .0) .0) in
-    (omega arith, omega (arith, w .1 .named .few, m .states), omega (arith, w .1 .named .few, m .news, w .1 .named .behind .size))
-printable (turned p) h = omega arith
-printable malformed h = omega arith
-printable badNames h = omega arith
-printable tooMany h = omega arith
+use Rattle.reader.specs.Advancing.{Passed, itemsOf, Applies, none as no-line, next, waited, Quiet, Stops, found, ended}
+use Rattle.reader.proofs.Lines.{line-right}
+use Rattle.report.specs.Texts.{newsText, totalsOf, totalsText}
+use Rattle.report.specs.Listing.{outcomeText, lineText, linesText}
+use Rattle.report.specs.Printing.{answerText, passedText, tableTotals}
 
 -- statuses that agree on the news print the same
 news-same : (line : ℕ) (f g : ℕ → ℕ) (l : List ℕ) → ((s : ℕ) → List·Memᴰ s l → f s ≡ g s) → newsText line f l ≡ newsText line g l
@@ -83,51 +40,86 @@ unfolding newsText
 news-same line f g [] e = refl
 news-same line f g (s ∷ l) e = rw (e s (List·Memᴰ·head refl), news-same line f g l (λ x m. e x (List·Memᴰ·tail m))) refl
 
-totals-same : (f g : ℕ → ℕ) → ((s : ℕ) → s < 2048 → f s ≡ g s) → totalsOf f ≡ totalsOf g
-totals-same f g e = rw (each 1, each 2, each 3, each 4) refl
-  where
-    each : (k : ℕ) → below 2048 (λ s. eqb (f s) k) ≡ below 2048 (λ s. eqb (g s) k)
-    each k = below-same 2048 (λ s. eqb (f s) k) (λ s. eqb (g s) k) (λ s h. ap (λ (x : ℕ). eqb x k) (e s h))
-
--- the text of what the reader tells of a line
-told-text : (limit : ℕ) (h : History) {a : Answer} {g g′ : Graph} {t t′ : Tables} {o : Came′} → Came a g t g′ t′ o → g .n ≡ 2048 → Tells (t′ .news) (placeOf a) o (outcomeOf limit h a) → Standing limit (afterItem limit h a) g′ t′ → tableText o (t′ .news) (t′ .status) ≡ outcomeText (placeOf a) (status (afterItem limit h a)) (outcomeOf limit h a)
-unfolding newsText
-told-text limit h nothing n q w = refl
-told-text limit h (took {r = r} {t′ = t′} {k = k} p) n q w = by (outcome 2048 limit h (r .update)) q
-  where
-    f : ℕ → ℕ
-    f = status (after 2048 limit h (r .update))
-
-    by : (o : Outcome) → Tells (t′ .news) (r .line) (Took (r .line) k) o → newsText (r .line) (λ x. getD (t′ .status) x 0) (take k (t′ .news)) ≡ outcomeText (r .line) f o
-    by (accepted l) (line-taken e) =
-        let m = was-accepted p in
-        news-same (r .line) (λ x. getD (t′ .status) x 0) f (take k (t′ .news)) (λ x z. w .fits .status x (omega (arith, m .1 .named .inRange x z, n, w .states))) ∙
-        ap (newsText (r .line) f) e
-told-text limit h (turned {r = r} {t′ = t′} {k = k} p) n q w = by (outcome 2048 limit h (r .update)) q
-  where
-    by : (o : Outcome) → Tells (t′ .news) (r .line) (Turned (r .line) k) o → refusedText (r .line) k ≡ outcomeText (r .line) (status (after 2048 limit h (r .update))) o
-    by (refused j) line-refused = refl
-told-text limit h malformed n q w = refl
-told-text limit h badNames n q w = refl
-told-text limit h tooMany n q w = refl
+-- what is told of a line, by its text
+told-text : (f : ℕ → ℕ) (line : ℕ) (x : Outcome (List ℕ)) (o : LineAnswer) (news status : List ℕ) → lineOutcome o news ≡ some (record { line = line; outcome = x }) → ((s k : ℕ) → List·Memᴰ s (take k news) → (m : ℕ) → o ≡ Accepted m k → getD status s 0 ≡ f s) → answerText o news status ≡ outcomeText line f x
+told-text f line x Nothing news status e q = absurd (let z : _≡_ {A = ℕ} 0 1 = cc in omega arith)
+told-text f line x (Accepted m k) news status e q =
+    let w : _≡_ {A = Told} (record { line = m; outcome = accepted (take k news) }) (record { line = line; outcome = x }) = cc in
+    let y : line ≡ m = sym (ap (λ (z : Told). z .line) w) in
+    let z : x ≡ accepted (take k news) = sym (ap (λ (z : Told). z .outcome) w) in
+    rw (y, z) (news-same m (λ s. getD status s 0) f (take k news) (λ s i. q s k i m refl))
+told-text f line x (Refused m k) news status e q =
+    let w : _≡_ {A = Told} (record { line = m; outcome = refused k }) (record { line = line; outcome = x }) = cc in
+    let y : line ≡ m = sym (ap (λ (z : Told). z .line) w) in
+    let z : x ≡ refused k = sym (ap (λ (z : Told). z .outcome) w) in
+    rw (y, z)
 
 -- One line.
-pub says-of : {a : Answer} {g g′ : Graph} {t t′ : Tables} {o : Came′} → Came a g t g′ t′ o → (limit : ℕ) (h : History) → Standing limit h g t → (tableText o (t′ .news) (t′ .status) ≡ lineText limit h a) × Standing limit (afterItem limit h a) g′ t′
-unfolding lineText
-says-of c limit h s =
-    let w = line-right s c in
-    (told-text limit h c (s .states) (w .0) (w .1), w .1)
+pub line-says : {limit : ℕ} {h : History} {a : Item} {g g′ : Graph} {t t′ : Tables} {o : LineAnswer} → Standing limit h g t → Came a g t g′ t′ o → answerText o (t′ .news) (t′ .status) ≡ lineText limit h a
+unfolding lineText newsText
+line-says s nothing = refl
+line-says {limit} {h} {g = g} {g′ = g′} {t = t} {t′ = t′} {o = o} s (sent {r = r} {a = a} p e) =
+    let w = line-right s (sent {r = r} p e) in
+    told-text (status (afterItem limit h (Rattle.record.specs.declared.splitter.Item.the-variants.Update r))) (r .line) (outcomeOf limit h (Rattle.record.specs.declared.splitter.Item.the-variants.Update r)) o (t′ .news) (t′ .status) (w .0)
+    (λ x k i m z. w .1 .fits .status x (rw (w .1 .states) (rw (s .states) at (by a p (sym e ∙ z) i))))
+  where
+    by : {x k m : ℕ} (b : Answer) → Promise g (r .update) t g′ b t′ → lineAnswer (r .line) b ≡ Accepted m k → List·Memᴰ x (take k (t′ .news)) → x < g .n
+    by {x} {k} (Yes j) q z i = let y : j ≡ k = cc in was-accepted q .1 .named .inRange x (rw y i)
+    by (No j) q z i = absurd (let y : _≡_ {A = ℕ} 0 1 = cc in omega arith)
+line-says s malformed = refl
+line-says s badNames = refl
+line-says s tooMany = refl
 
--- a line, and what follows it
-pub printed-told : (limit : ℕ) (h : History) (a : Answer) (l : List Answer) → printed limit h (told a ++ l) ≡ lineText limit h a ++ printed limit (afterItem limit h a) l
-unfolding printed lineText newsText
-printed-told limit h Nothing l = refl
-printed-told limit h (Read r) l = refl
-printed-told limit h (Malformed n) l = refl
-printed-told limit h BadNames l = refl
-printed-told limit h TooMany l = refl
+-- All lines.
+pub lines-say : {limit : ℕ} {h : History} {g g′ : Graph} {t t′ : Tables} {l : List Passed} → Standing limit h g t → Applies g t l g′ t′ → passedText l ≡ linesText limit h (itemsOf l)
+unfolding passedText linesText
+lines-say s no-line = refl
+lines-say s (next c a) = rw (line-says s c, lines-say (line-right s c .1) a)
+
+pub lines-then : (limit : ℕ) (h : History) (l m : List Item) → linesText limit h (l ++ m) ≡ linesText limit h l ++ linesText limit (afterItems limit h l) m
+unfolding linesText
+lines-then limit h [] m = refl
+lines-then limit h (a ∷ l) m = rw (lines-then limit (afterItem limit h a) l m) (sym (append-assoc (lineText limit h a) (linesText limit (afterItem limit h a) l) (linesText limit (afterItems limit (afterItem limit h a) l) m)))
+
+pub passed-then : (l m : List Passed) → passedText (l ++ m) ≡ passedText l ++ passedText m
+unfolding passedText
+passed-then [] m = refl
+passed-then (p ∷ l) m = rw (passed-then l m) (sym (append-assoc (answerText (p .answer) (p .after .news) (p .after .status)) (passedText l) (passedText m)))
+
+totals-same : (f g : ℕ → ℕ) → ((s : ℕ) → s < readerStates → f s ≡ g s) → totalsOf f ≡ totalsOf g
+totals-same f g e = rw (each 1, each 2, each 3, each 4) refl
+  where
+    each : (k : ℕ) → below readerStates (λ s. eqb (f s) k) ≡ below readerStates (λ s. eqb (g s) k)
+    each k = below-same readerStates (λ s. eqb (f s) k) (λ s. eqb (g s) k) (λ s h. ap (λ (x : ℕ). eqb x k) (e s h))
 
 -- The totals of tables that fit are those of the history.
-pub totals-say : {limit : ℕ} {h : History} {g : Graph} {t : Tables} → Standing limit h g t → tableTotals t ≡ printed limit h []
-unfolding printed
+pub totals-say : {limit : ℕ} {h : History} {g : Graph} {t : Tables} → Standing limit h g t → tableTotals (t .status) ≡ totalsText (totalsOf (status h))
 totals-say {h = h} {t = t} s = ap totalsText (totals-same (λ r. getD (t .status) r 0) (status h) (λ r z. s .fits .status r (omega (arith, s .states))))
+
+-- Lines without news that are not refused print nothing.
+quiet-text : (l : List Passed) → Quiet News l → passedText l ≡ []
+unfolding passedText newsText
+quiet-text [] q = refl
+quiet-text (p ∷ l) q = rw (by (p .answer) (q .0), quiet-text l (q .1))
+  where
+    by : (o : LineAnswer) → waited News o ≡ false → answerText o (p .after .news) (p .after .status) ≡ []
+    by Nothing e = refl
+    by (Accepted line k) e = none-of (eqb k 0) refl e
+      where
+        none-of : (b : Bool) → eqb k 0 ≡ b → not b ≡ false → newsText line (λ s. getD (p .after .status) s 0) (take k (p .after .news)) ≡ []
+        none-of true z y = rw (eqb-true k 0 z)
+        none-of false z y = absurd (false≢true (sym y))
+    by (Refused line k) e = absurd (false≢true (sym e))
+
+-- the tables after the last line
+applies-last : {g g′ : Graph} {t t′ : Tables} (l : List Passed) (p : Passed) → Applies g t (l ++ (p ∷ [])) g′ t′ → p .after ≡ t′
+applies-last [] p (next c no-line) = refl
+applies-last (q ∷ l) p (next c a) = applies-last l p a
+
+-- What a reader that waits for news passes prints what came of the line that it found.
+pub stops-text : {g g′ : Graph} {t t′ : Tables} {l : List Passed} {left : List ℕ} {o : LineAnswer} → Applies g t l g′ t′ → Stops News l left o → passedText l ≡ answerText o (t′ .news) (t′ .status)
+unfolding passedText
+stops-text {g} {g′} {t} {t′} {l = l} a (found before p e q w z) =
+    let y : p .after ≡ t′ = applies-last before p (rw e at a) in
+    rw e (passed-then before (p ∷ []) ∙ rw (quiet-text before q, append-nil (answerText (p .answer) (p .after .news) (p .after .status)), y, z))
+stops-text {l = l} a (ended q e z) = rw z (quiet-text l q)

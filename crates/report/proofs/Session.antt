@@ -1,116 +1,133 @@
--- A record that comes in parts: what the calls write, one behind another, is its listing.
+-- A listing from its first call to its last: each call keeps its progress, and where the last one says so the listing has been written.
 -- Assumes nothing.
-use mathlib.Core.Path.{_≡_, refl, sym, _∙_, ap, subst}
-use mathlib.Core.Bool.{true, false}
-use mathlib.Core.List.{List, [], _∷_, _++_, append-assoc, append-nil}
-use Prim.Native.Nat.{ℕ, _+_, _≤_, _<_}
+use mathlib.Core.Path.{_≡_, refl, sym, _∙_, ap}
+use mathlib.Core.Bool.{Bool, true, false, cond}
+use mathlib.Core.List.{List, [], _++_, append-assoc, append-nil}
+use mathlib.Core.Option.{none}
+use Prim.Native.Nat.{ℕ, _≤_}
 use native.Mathlib.Omega.{arith}
-use lib.ListN.{length, drop}
-use Rattle.gid.specs.Histories.{History}
+use lib.Dec.{leb}
+use lib.ListN.{length, take, drop, drop-of-length-le}
+use lib.Seq.{take-at, take-all, take-length}
+use borrow.Author.Tests.{leb-false, le-leb}
 use Rattle.tables.specs.declared.Graph.{Graph}
 use Rattle.tables.specs.Tables.{Tables}
-use Rattle.record.specs.Text.{WroteAt}
-use Rattle.record.specs.declared.splitter.Answer.{Answer}
 use Rattle.record.specs.declared.splitter.Splitter.{Splitter}
+use Rattle.record.specs.Text.{WroteAt}
 use Rattle.record.specs.Items.{items}
-use Rattle.record.specs.Splitting.{started, afterPart, told, run, pending, afterBytes}
-use Rattle.record.proofs.Splitting.{run-items, run-part, part-bytes, pending-told, over-told, idle-told}
-use Rattle.reader.specs.Opening.{readerGraph, openNumber, freshened}
-use Rattle.reader.specs.Replaying.{afterItem}
-use Rattle.reader.specs.Standing.{Standing}
+use Rattle.record.specs.Splitting.{run}
+use Rattle.record.proofs.Splitting.{run-items}
+use Rattle.record.proofs.Placing.{placed-take}
+use Rattle.reader.specs.declared.task.Task.{Task}
+use Rattle.reader.specs.declared.task.Task.the-variants.{Read, Write, End}
+use Rattle.reader.specs.Opening.{openRefusal}
+use Rattle.reader.specs.Reading.{recordLimit}
+use Rattle.reader.specs.Advancing.{Passed, itemsOf, Applies, Follows}
+use Rattle.reader.specs.Underway.{Underway}
 use Rattle.reader.proofs.Lines.{opened-stands}
+use Rattle.reader.proofs.Parts.{underway-stands, underway-more, underway-follows, underway-last, underway-stopped}
+use Rattle.report.specs.declared.lister.Lister.{Lister}
 use Rattle.report.specs.Texts.{header}
-use Rattle.report.specs.Listing.{lineText, printed, listing}
-use Rattle.report.specs.Printing.{lineRoom, tableText, tableTotals, Lists, Prints, Lasts, Ends}
-use Rattle.report.proofs.Placing.{placed-none, placed-then, placed-on}
-use Rattle.report.proofs.Saying.{printed-told, totals-say}
+use Rattle.report.specs.Listing.{linesText, printed, listing}
+use Rattle.report.specs.Progress.{leftBy, Ongoing, Finished, ListingProgress, reads, writes, ends}
+use Rattle.report.specs.Printing.{passedText, tableTotals}
+use Rattle.report.specs.Lister.{listerRoom, begins, least, placeBy, startBy, BeginsListing, Lists, full, pauses, goes-on, stopped, ended}
+use Rattle.report.proofs.Saying.{lines-say, lines-then, totals-say}
 
--- before the first line
-pub prints-none : (s : Splitter) (bytes : List ℕ) (g : Graph) (t : Tables) (at : ℕ) (d : List ℕ) → at ≤ length d → Prints s bytes g t s bytes g t at d d at
-prints-none s bytes g t at d p = record { text = []; wrote = placed-none at d; within = p; fed = refl; says = λ limit h z. (h, z, λ rest. refl) }
+-- what is left, said in another way
+abbrev left-as : {got left left′ : List ℕ} {s : Splitter} {g : Graph} {t : Tables} → Underway recordLimit got s left g t → left ≡ left′ → Underway recordLimit got s left′ g t
+left-as {s = s} u e = record { lines = u .lines; told = λ rest. u .told rest ∙ ap (λ (x : List ℕ). u .lines ++ run s (x ++ rest)) e; stands = u .stands }
 
--- one line more
-pub prints-line :
-    {s s₁ : Splitter} {bytes : List ℕ} {g g₁ g₂ : Graph} {t t₁ t₂ : Tables} {at : ℕ} {d e f : List ℕ} {r k : ℕ} (l : List ℕ) (i : ℕ) →
-    Prints s bytes g t s₁ (drop i l) g₁ t₁ at d e r → Lists (afterPart s₁ l i .answer) g₁ t₁ g₂ t₂ r e f k → k ≤ length d →
-    Prints s bytes g t (afterPart s₁ l i .splitter) (drop (afterPart s₁ l i .next) l) g₂ t₂ at d f k
-prints-line {s} {s₁} {bytes} {t₂ = t₂} {at = at} {d = d} {e} {f} {r} {k} l i p q h =
-    let u = tableText (q .outcome) (t₂ .news) (t₂ .status) in
-    record {
-      text = p .text ++ u;
-      wrote = placed-then at (p .text) u d e f r k (p .wrote) (q .wrote) (omega (arith, p .wrote .after, q .wrote .after));
-      within = h;
-      fed = p .fed ∙ part-bytes s₁ l i;
-      says = λ limit y z.
-          let a = p .says limit y z in
-          let b = q .says limit (a .0) (a .1) in (
-            afterItem limit (a .0) (afterPart s₁ l i .answer),
-            b .1,
-            λ rest.
-                a .2 rest ∙
-                ap (λ (w : List ℕ). p .text ++ w)
-                (ap (printed limit (a .0)) (run-part s₁ l rest i) ∙
-                printed-told limit (a .0) (afterPart s₁ l i .answer) (run (afterPart s₁ l i .splitter) (drop (afterPart s₁ l i .next) l ++ rest)) ∙
-                ap (λ (w : List ℕ). w ++ printed limit (afterItem limit (a .0) (afterPart s₁ l i .answer)) (run (afterPart s₁ l i .splitter) (drop (afterPart s₁ l i .next) l ++ rest))) (sym (b .0))) ∙
-                sym (append-assoc (p .text) u (printed limit (afterItem limit (a .0) (afterPart s₁ l i .answer)) (run (afterPart s₁ l i .splitter) (drop (afterPart s₁ l i .next) l ++ rest)))),
-          );
-    }
+-- What the lines so far and those of a call print.
+says : {got left : List ℕ} {s : Splitter} {g g′ : Graph} {t t′ : Tables} {l : List Passed} (u : Underway recordLimit got s left g t) → Applies g t l g′ t′ → linesText recordLimit [] (u .lines ++ itemsOf l) ≡ linesText recordLimit [] (u .lines) ++ passedText l
+says {l = l} u a = lines-then recordLimit [] (u .lines) (itemsOf l) ∙ ap (λ (x : List ℕ). linesText recordLimit [] (u .lines) ++ x) (sym (lines-say (u .stands) a))
 
--- the last line, which a newline ended
-pub lasts-line : {s s′ : Splitter} {bytes′ : List ℕ} {g g′ : Graph} {t t′ : Tables} {at : ℕ} {d e : List ℕ} {r : ℕ} → pending s ≡ true → Prints s (10 ∷ []) g t s′ bytes′ g′ t′ at d e r → bytes′ ≡ [] → r ≤ at + lineRoom → Lasts s g t t′ at d e r
-unfolding afterBytes
-lasts-line {s} {s′} {bytes′} {g′ = g′} q p b w =
-    record {
-      text = p .text;
-      wrote = p .wrote;
-      within = w;
-      says = λ limit h z.
-          let a = p .says limit h z in
-          let k : run s′ (bytes′ ++ []) ≡ [] = ap (λ (x : List ℕ). run s′ (x ++ [])) b ∙ ap (λ (x : Splitter). run x []) (ap (afterBytes s′) (sym b) ∙ sym (p .fed)) ∙ over-told s in
-          (a .0, g′, a .1, ap (printed limit h) (sym (pending-told s q)) ∙ a .2 [] ∙ ap (λ (x : List Answer). p .text ++ printed limit (a .0) x) k);
-    }
+-- The text written so far, and a text behind it.
+grown : (put output output′ lined text : List ℕ) (at r : ℕ) → put ++ take at output ≡ header ++ lined → WroteAt at text output output′ r → r ≤ length output → put ++ take r output′ ≡ header ++ (lined ++ text)
+grown put output output′ lined text at r before w h =
+    ap (λ (x : List ℕ). put ++ x) (placed-take w (omega (arith, w .after))) ∙ sym (append-assoc put (take at output) text) ∙
+    ap (λ (x : List ℕ). x ++ text) before ∙ append-assoc header lined text
 
--- no line is left
-pub lasts-none : {s : Splitter} {g : Graph} {t : Tables} {at : ℕ} {d : List ℕ} → pending s ≡ false → Lasts s g t t at d d at
-lasts-none {s} {g} {at = at} {d} q =
-    record { text = []; wrote = placed-none at d; within = omega arith; says = λ limit h z. (h, g, z, ap (printed limit h) (idle-told s q)) }
+-- The whole listing: the lines, and behind them the totals of what they come to.
+whole : {got left : List ℕ} {s : Splitter} {g g′ : Graph} {t t′ : Tables} {l : List Passed} (u : Underway recordLimit got s left g t) → Applies g t l g′ t′ → (input : List ℕ) → items input ≡ u .lines ++ itemsOf l → header ++ (linesText recordLimit [] (u .lines) ++ (passedText l ++ tableTotals (t′ .status))) ≡ listing input
+unfolding printed
+whole {t′ = t′} {l = l} u a input e =
+    let m = u .lines ++ itemsOf l in
+    ap (λ (x : List ℕ). header ++ x)
+    (sym (append-assoc (linesText recordLimit [] (u .lines)) (passedText l) (tableTotals (t′ .status))) ∙
+    ap (λ (x : List ℕ). x ++ tableTotals (t′ .status)) (sym (says u a)) ∙
+    ap (λ (x : List ℕ). linesText recordLimit [] m ++ x) (totals-say (underway-stands u a)) ∙
+    ap (printed recordLimit []) (sym e))
 
--- the totals behind it
-pub ends-by : {s : Splitter} {g : Graph} {t t′ : Tables} {at : ℕ} {d e f : List ℕ} {r k : ℕ} → Lasts s g t t′ at d e r → WroteAt r (tableTotals t′) e f k → k ≤ length d → Ends s g t t′ at d f k
-ends-by p w h =
-    record {
-      text = p .text;
-      wrote = placed-on (p .wrote) w h;
-      within = h;
-      says = λ limit y z.
-          let a = p .says limit y z in
-          ap (λ (x : List ℕ). p .text ++ x) (totals-say (a .2)) ∙ sym (a .3);
-    }
+drop-none : (n : ℕ) → drop {A = ℕ} n [] ≡ []
+drop-none n = let h : 0 ≤ n = omega arith in drop-of-length-le [] h
 
--- The calls that a record takes, from a splitter, a state value and tables: some lines of a part, again and again, and the end. The bytes are all that is still to come, in parts of any length, and the text is all that the calls write, each into a buffer of its own.
-pub data Session : Splitter → Graph → Tables → List ℕ → List ℕ → Type 0 where
-  lines-then :
-      {s s′ : Splitter} {g g′ : Graph} {t t′ : Tables} {at : ℕ} {d e : List ℕ} {r : ℕ} {all bytes bytes′ w : List ℕ} (rest : List ℕ) →
-      all ≡ bytes ++ rest → (p : Prints s bytes g t s′ bytes′ g′ t′ at d e r) → Session s′ g′ t′ (bytes′ ++ rest) w → Session s g t all (p .text ++ w)
-  ended :
-      {s : Splitter} {g : Graph} {t t′ : Tables} {at : ℕ} {d e : List ℕ} {r : ℕ} →
-      (p : Ends s g t t′ at d e r) → Session s g t [] (p .text ++ tableTotals t′)
+-- a place past the end of the output is its end
+take-least : (n : ℕ) (d : List ℕ) → take (least n (length d)) d ≡ take n d
+take-least n d = by (leb n (length d)) refl
+  where
+    by : (q : Bool) → leb n (length d) ≡ q → take (cond q n (length d)) d ≡ take n d
+    by true e = refl
+    by false e = let h = leb-false n (length d) e in let a : length d ≤ n = omega arith in take-length d ∙ sym (take-all n d a)
 
--- What the calls write is what is to be printed.
-pub session-prints : {limit : ℕ} {h : History} {s : Splitter} {g : Graph} {t : Tables} {all w : List ℕ} → Standing limit h g t → Session s g t all w → w ≡ printed limit h (run s all)
-unfolding run
-session-prints {limit} {h} {s} z (lines-then rest e p n) =
-    let a = p .says limit h z in
-    rw e (ap (λ (x : List ℕ). p .text ++ x) (session-prints (a .1) n) ∙ sym (a .2 rest))
-session-prints {limit} {h} z (ended p) = p .says limit h z
+-- One call, on what is left of a piece: the bytes `got` have come, and what was written before the place ends with the lines so far.
+module _
+    (got put piece output : List ℕ) (l : Lister) (t : Tables)
+    (u : Underway recordLimit got (l .reader .splitter) (drop (startBy (l .task) (l .next) (length piece)) piece) (l .reader .engine .graph) t)
+    (before : put ++ take (placeBy (l .task) (l .end)) output ≡ header ++ linesText recordLimit [] (u .lines)) where
+  more : {text output′ : List ℕ} {r : ℕ} → WroteAt (placeBy (l .task) (l .end)) text output output′ r → r ≤ length output → put ++ take r output′ ≡ header ++ (linesText recordLimit [] (u .lines) ++ text)
+  more {text} {output′} {r} w h = grown put output output′ (linesText recordLimit [] (u .lines)) text (placeBy (l .task) (l .end)) r before w h
 
--- On opened tables with limit 2,048 the header and what the calls write, over any parts that make up the input, are the listing of the input.
-pub listed : (t : Tables) → openNumber 2048 t ≡ 0 → (input w : List ℕ) → Session started (readerGraph 2048) (freshened 2048 t) input w → header ++ w ≡ listing input
-listed t e input w n = ap (λ (x : List ℕ). header ++ x) (session-prints (opened-stands 2048 t e) n ∙ ap (printed 2048 []) (run-items input))
+  ongoing : {output′ left : List ℕ} {l′ : Lister} {t′ : Tables} (f : Follows (l .reader .splitter) (drop (startBy (l .task) (l .next) (length piece)) piece) (l .reader .engine .graph) t (l′ .reader .splitter) left (l′ .reader .engine .graph) t′) → left ≡ leftBy (l′ .task) (l′ .next) piece → WroteAt (placeBy (l .task) (l .end)) (passedText (f .passed)) output output′ (l′ .end) → l′ .end ≤ length output → Ongoing got put l′ piece output′ t′
+  ongoing f e w h = record { under = left-as (underway-follows u f) e; text = more w h ∙ ap (λ (x : List ℕ). header ++ x) (sym (says u (f .applied))) }
 
--- the same, by what the call answers
-pub prints-by :
-    {s s₁ s₂ : Splitter} {bytes : List ℕ} {g g₁ g₂ : Graph} {t t₁ t₂ : Tables} {at : ℕ} {d e f : List ℕ} {r k : ℕ} (l : List ℕ) (i j : ℕ) →
-    Prints s bytes g t s₁ (drop i l) g₁ t₁ at d e r → j ≡ afterPart s₁ l i .next → s₂ ≡ afterPart s₁ l i .splitter → Lists (afterPart s₁ l i .answer) g₁ t₁ g₂ t₂ r e f k → k ≤ length d →
-    Prints s bytes g t s₂ (drop j l) g₂ t₂ at d f k
-prints-by l i j p n m q h = rw (n, m) (prints-line l i p q h)
+  called : {output′ : List ℕ} {l′ : Lister} {t′ : Tables} → Lists l piece output t l′ output′ t′ → ListingProgress got put l′ piece output′ t′
+  called (full h q z w) = rw (q, z, w) (writes refl (record { under = u; text = ap (λ (x : List ℕ). put ++ x) (take-least (placeBy (l .task) (l .end)) output) ∙ before }))
+  called (pauses f k s w h) = writes k (ongoing f (rw k) w h)
+  called (goes-on f o k g s w h) = reads k (ongoing f (o ∙ rw k) w h)
+  called (stopped f k s w h) = ends k (λ rest none. more w h ∙ whole u (f .applied) (got ++ rest) (underway-stopped (underway-follows u f) s rest))
+  called (ended e n f o k w h) =
+      ends k
+      (λ rest none.
+      more w h ∙
+      whole u (f .applied) (got ++ rest)
+      (ap (λ (x : List ℕ). items (got ++ x)) (none e) ∙ ap items (append-nil got) ∙ underway-last u (rw e (drop-none (startBy (l .task) (l .next) 0))) f o n))
+
+-- From the start of a piece, or from where the last call stopped in it.
+drop-least : (next : ℕ) (piece : List ℕ) → drop (least next (length piece)) piece ≡ drop next piece
+drop-least next piece = by (leb next (length piece)) refl
+  where
+    by : (q : Bool) → leb next (length piece) ≡ q → drop (cond q next (length piece)) piece ≡ drop next piece
+    by true e = refl
+    by false e = let h = leb-false next (length piece) e in let a : length piece ≤ next = omega arith in let b : length piece ≤ length piece = omega arith in drop-of-length-le piece b ∙ sym (drop-of-length-le piece a)
+
+-- The first call: nothing has been read, and the header stands in the output.
+pub progress-begun : {output output′ : List ℕ} {t t′ : Tables} {l : Lister} → BeginsListing output t l output′ t′ → listerRoom ≤ length output → openRefusal recordLimit t ≡ none → ListingProgress [] [] l [] output′ t′
+unfolding linesText
+progress-begun {output} {t = t} b h e =
+    let z : begins output t ≡ true = rw (le-leb listerRoom (length output) h, e) in
+    rw (b .lister, b .tables, b .text, z)
+    (reads refl
+    (record {
+      under = record { lines = []; told = λ rest. sym (run-items rest); stands = opened-stands recordLimit t e };
+      text = take-at header (drop (length header) output) (length header) refl ∙ sym (append-nil header);
+    }))
+
+module _ {got put piece output output′ : List ℕ} {l l′ : Lister} {t t′ : Tables} where
+  -- The piece that was asked for has been read, and listed from its start on.
+  pub progress-read : {old : List ℕ} → ListingProgress got put l old output t → l .task ≡ Read → Lists l piece output t l′ output′ t′ → ListingProgress (got ++ piece) put l′ piece output′ t′
+  progress-read (reads q o) e c = called (got ++ piece) put piece output l t (left-as (underway-more (left-as (o .under) (rw e)) piece) (rw e)) (ap (λ (x : Task). put ++ take (placeBy x (l .end)) output) e ∙ o .text) c
+  progress-read (writes q o) e c = absurd (let z : _≡_ {A = ℕ} 0 1 = cc in omega arith)
+  progress-read (ends q o) e c = absurd (let z : _≡_ {A = ℕ} 0 1 = cc in omega arith)
+
+  -- The output has been written out, and the same piece is listed on.
+  pub progress-written : ListingProgress got put l piece output t → l .task ≡ Write → Lists l piece output t l′ output′ t′ → ListingProgress got (put ++ take (l .end) output) l′ piece output′ t′
+  progress-written (reads q o) e c = absurd (let z : _≡_ {A = ℕ} 0 1 = cc in omega arith)
+  progress-written (writes q o) e c = called got (put ++ take (l .end) output) piece output l t (left-as (o .under) (rw (e, drop-least (l .next) piece))) (ap (λ (x : Task). put ++ take (l .end) output ++ take (placeBy x (l .end)) output) e ∙ append-nil (put ++ take (l .end) output) ∙ o .text) c
+  progress-written (ends q o) e c = absurd (let z : _≡_ {A = ℕ} 0 1 = cc in omega arith)
+
+-- The output has been written out for the last time: that was the listing.
+pub progress-ended : {got put piece output : List ℕ} {l : Lister} {t : Tables} → ListingProgress got put l piece output t → l .task ≡ End → Finished got put l piece output
+progress-ended (reads q o) e = absurd (let z : _≡_ {A = ℕ} 0 1 = cc in omega arith)
+progress-ended (writes q o) e = absurd (let z : _≡_ {A = ℕ} 0 1 = cc in omega arith)
+progress-ended (ends q o) e = o

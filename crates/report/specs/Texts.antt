@@ -8,6 +8,7 @@ use lib.ListN.{length}
 use Rattle.gid.specs.Statuses.{statusOpen, statusUnknown, statusLive, statusDead}
 use Rattle.gid.specs.News.{below}
 use Rattle.record.specs.Text.{decimal}
+use Rattle.reader.specs.Opening.{readerStates}
 use Rattle.report.specs.declared.totals.Totals.{Totals}
 
 -- "It prints a header": `line verdict number`.
@@ -72,10 +73,14 @@ totalsBelow n status =
       dead = having n status statusDead;
     }
 
--- Over all 2,048 states.
+-- Over all states of a reader's tables.
 abbrev pub totalsOf : (ℕ → ℕ) → Totals
-totalsOf = totalsBelow 2048
+totalsOf = totalsBelow readerStates
 
 -- "then four counts": open, unknown, live, dead.
 unfoldable pub totalsText : Totals → List ℕ
 totalsText t = ending openWord (t .«open») ++ ending unknownWord (t .unknown) ++ ending endLiveWord (t .live) ++ ending endDeadWord (t .dead)
+
+-- The room that they take at most.
+abbrev pub totalsRoom : ℕ
+totalsRoom = 80

@@ -1,34 +1,38 @@
-// The listing of a record, part by part: each line is read and applied, and its text written at a place of a lent buffer.
+// A listing under way: the library decides what is read, what is written and when it is over, and a program hands the bytes on.
 ghost use mathlib.Core.Path.{_≡_};
-ghost use Prim.Native.Nat.{ℕ, _≤_, _<_, _+_, _*_};
-ghost use lib.ListN.{length, drop};
-ghost use Rattle.engine.specs.Done.{tablesOf};
-ghost use Rattle.record.specs.Text.{WroteAt};
-ghost use Rattle.record.specs.Splitting.{afterPart};
-ghost use Rattle.report.specs.Printing.{lineRoom, tableText, Printable, Lists, Prints, Lasts, Ends};
-use crate::text::put_news;
-use crate::text::put_refusal;
+ghost use mathlib.Core.Bool.{true, false};
+ghost use Prim.Native.Nat.{_≤_, _<_, _+_};
+ghost use lib.ListN.{length};
+ghost use Rattle.tables.specs.Tables.{tablesOf};
+ghost use Rattle.report.specs.Lister.{listerRoom, idle, placeBy, startBy, least, BeginsListing, Lists, PutsTotals, AfterLines};
+use crate::lines::LINE_ROOM;
+use crate::lines::Listed;
+use crate::lines::list_lines;
+use crate::text::TOTALS_ROOM;
+use crate::text::put_header;
 use crate::text::put_totals;
-use reader::Outcome;
+use engine::Engine;
+use reader::Opened;
+use reader::RECORD_LIMIT;
 use reader::Reader;
+use reader::Task;
+use reader::piece_or;
+use tables::Graph;
 
-// The room that is to be left in the buffer for a line.
-pub const LINE_ROOM: usize = 34816;
+// The output's least length: room for a line and the totals.
+const LISTER_ROOM: usize = LINE_ROOM + TOTALS_ROOM;
 
-// The reader after some bytes of a part, the index after them, and the place after what was written.
-pub struct Listed {
+// Where a listing stands: the reader, the index in the piece from which on it is to be read, the place after the text in the output, and what the caller is to do.
+pub struct Lister {
     pub reader: Reader,
     pub next: usize,
     pub end: usize,
+    pub task: Task,
 }
 
-// Feeds the bytes of a part from an index on, up to the end of a line or of the part, and writes the text of what came of the line.
-pub fn list_line(
-    reader: Reader,
-    part: &[u8],
-    index: usize,
-    buf: &mut [u8],
-    at: usize,
+// Opens the tables for a listing, with the limit that it has, and writes its header. Tables or an output that are too short list nothing.
+pub fn begin(
+    output: &mut [u8],
     status: &mut [u8],
     marks: &mut [u8],
     from: &mut [u16],
@@ -41,15 +45,14 @@ pub fn list_line(
     visited: &mut [u16],
     in_next: &mut [u16],
     out_next: &mut [u16],
-) -> Listed
-    requires { ⌜ at + lineRoom ≤ length (now buf) ⌝ }
-    ensures { λ r. ⌜ (r .next ≡ afterPart (reader .splitter) (now (part .entry)) index .next)
-        × (r .reader .splitter ≡ afterPart (reader .splitter) (now (part .entry)) index .splitter)
-        × Lists (afterPart (reader .splitter) (now (part .entry)) index .answer) (reader .engine .graph) (tablesOf (now (status .entry)) (now (marks .entry)) (now (from .entry)) (now (to .entry)) (now (successor .entry)) (now (news .entry)) (now («in_head» .entry)) (now («out_head» .entry)) (now (queue .entry)) (now (visited .entry)) (now («in_next» .entry)) (now («out_next» .entry))) (r .reader .engine .graph) (tablesOf (now (status .exit)) (now (marks .exit)) (now (from .exit)) (now (to .exit)) (now (successor .exit)) (now (news .exit)) (now («in_head» .exit)) (now («out_head» .exit)) (now (queue .exit)) (now (visited .exit)) (now («in_next» .exit)) (now («out_next» .exit))) at (now (buf .entry)) (now (buf .exit)) (r .end) ⌝ }
+) -> Lister
+    ensures { λ r. ⌜ BeginsListing (now (output .entry)) (tablesOf (now (status .entry)) (now (marks .entry)) (now (from .entry)) (now (to .entry)) (now (successor .entry)) (now (news .entry)) (now («in_head» .entry)) (now («out_head» .entry)) (now (queue .entry)) (now (visited .entry)) (now («in_next» .entry)) (now («out_next» .entry))) r (now (output .exit)) (tablesOf (now (status .exit)) (now (marks .exit)) (now (from .exit)) (now (to .exit)) (now (successor .exit)) (now (news .exit)) (now («in_head» .exit)) (now («out_head» .exit)) (now (queue .exit)) (now (visited .exit)) (now («in_next» .exit)) (now («out_next» .exit))) ⌝ }
 {
-    let turn = reader.turn(
-        part,
-        index,
+    if output.len() < LISTER_ROOM {
+        return idle();
+    }
+    let opened = reader::open(
+        RECORD_LIMIT,
         status,
         marks,
         from,
@@ -63,85 +66,44 @@ pub fn list_line(
         in_next,
         out_next,
     );
-    let after = turn.reader;
-    let next = turn.next;
-    let outcome = turn.outcome;
-    let end = put_outcome(buf, at, outcome, news, status);
-    Listed {
-        reader: after,
-        next,
-        end,
-    }
-}
-
-// Feeds the lines of a part from an index on, up to its end or until the buffer has no room for a line.
-pub fn list_part(
-    reader: Reader,
-    part: &[u8],
-    index: usize,
-    buf: &mut [u8],
-    at: usize,
-    status: &mut [u8],
-    marks: &mut [u8],
-    from: &mut [u16],
-    to: &mut [u16],
-    successor: &mut [u16],
-    news: &mut [u16],
-    in_head: &mut [u16],
-    out_head: &mut [u16],
-    queue: &mut [u16],
-    visited: &mut [u16],
-    in_next: &mut [u16],
-    out_next: &mut [u16],
-) -> Listed
-    requires { ⌜ (index ≤ length (now part)) × (at ≤ length (now buf)) ⌝ }
-    ensures { λ r. ⌜ (r .next ≤ length (now (part .entry)))
-        × (index < length (now (part .entry)) → at + lineRoom ≤ length (now (buf .entry)) → index < r .next)
-        × (r .end + lineRoom * index ≤ at + lineRoom * r .next)
-        × Prints (reader .splitter) (drop index (now (part .entry))) (reader .engine .graph) (tablesOf (now (status .entry)) (now (marks .entry)) (now (from .entry)) (now (to .entry)) (now (successor .entry)) (now (news .entry)) (now («in_head» .entry)) (now («out_head» .entry)) (now (queue .entry)) (now (visited .entry)) (now («in_next» .entry)) (now («out_next» .entry))) (r .reader .splitter) (drop (r .next) (now (part .entry))) (r .reader .engine .graph) (tablesOf (now (status .exit)) (now (marks .exit)) (now (from .exit)) (now (to .exit)) (now (successor .exit)) (now (news .exit)) (now («in_head» .exit)) (now («out_head» .exit)) (now (queue .exit)) (now (visited .exit)) (now («in_next» .exit)) (now («out_next» .exit))) at (now (buf .entry)) (now (buf .exit)) (r .end) ⌝ }
-{
-    let mut current = reader;
-    let mut next = index;
-    let mut end = at;
-    while next < part.len() {
-        if buf.len() - end < LINE_ROOM {
-            break;
+    match opened {
+        Opened::Refused(_) => idle(),
+        Opened::Ready(engine) => {
+            let reader = Reader::start(engine);
+            let end = put_header(output, 0);
+            Lister {
+                reader,
+                next: 0,
+                end,
+                task: Task::Read,
+            }
         }
-        let listed = list_line(
-            current,
-            part,
-            next,
-            buf,
-            end,
-            status,
-            marks,
-            from,
-            to,
-            successor,
-            news,
-            in_head,
-            out_head,
-            queue,
-            visited,
-            in_next,
-            out_next,
-        );
-        current = listed.reader;
-        next = listed.next;
-        end = listed.end;
-    }
-    Listed {
-        reader: current,
-        next,
-        end,
     }
 }
 
-// The end of the record: the text of its last line, where that lacks a newline, and the totals.
-pub fn list_end(
-    reader: Reader,
-    buf: &mut [u8],
-    at: usize,
+// The lister that lists nothing.
+fn idle() -> Lister
+    ensures { λ r. ⌜ r ≡ idle ⌝ }
+{
+    Lister {
+        reader: Reader::start(Engine {
+            graph: Graph {
+                n: 0,
+                limit: 0,
+                steps: 0,
+            },
+        }),
+        next: 0,
+        end: 0,
+        task: Task::End,
+    }
+}
+
+// Lists what of a piece of the input the output has room for, and, where the input has ended or reading has stopped, the totals.
+pub fn list(
+    lister: Lister,
+    piece: &[u8],
+    output: &mut [u8],
     status: &mut [u8],
     marks: &mut [u8],
     from: &mut [u16],
@@ -154,13 +116,31 @@ pub fn list_end(
     visited: &mut [u16],
     in_next: &mut [u16],
     out_next: &mut [u16],
-) -> usize
-    requires { ⌜ at + (lineRoom + 80) ≤ length (now buf) ⌝ }
-    ensures { λ r. ⌜ Ends (reader .splitter) (reader .engine .graph) (tablesOf (now (status .entry)) (now (marks .entry)) (now (from .entry)) (now (to .entry)) (now (successor .entry)) (now (news .entry)) (now («in_head» .entry)) (now («out_head» .entry)) (now (queue .entry)) (now (visited .entry)) (now («in_next» .entry)) (now («out_next» .entry))) (tablesOf (now (status .exit)) (now (marks .exit)) (now (from .exit)) (now (to .exit)) (now (successor .exit)) (now (news .exit)) (now («in_head» .exit)) (now («out_head» .exit)) (now (queue .exit)) (now (visited .exit)) (now («in_next» .exit)) (now («out_next» .exit))) at (now (buf .entry)) (now (buf .exit)) r ⌝ }
+) -> Lister
+    ensures { λ r. ⌜ Lists lister (now (piece .entry)) (now (output .entry)) (tablesOf (now (status .entry)) (now (marks .entry)) (now (from .entry)) (now (to .entry)) (now (successor .entry)) (now (news .entry)) (now («in_head» .entry)) (now («out_head» .entry)) (now (queue .entry)) (now (visited .entry)) (now («in_next» .entry)) (now («out_next» .entry))) r (now (output .exit)) (tablesOf (now (status .exit)) (now (marks .exit)) (now (from .exit)) (now (to .exit)) (now (successor .exit)) (now (news .exit)) (now («in_head» .exit)) (now («out_head» .exit)) (now (queue .exit)) (now (visited .exit)) (now («in_next» .exit)) (now («out_next» .exit))) ⌝ }
 {
-    let end = list_last(
+    let reader = lister.reader;
+    let task = lister.task;
+    let at = place(task, lister.end);
+    let index = start(task, lister.next, piece.len());
+    if is_short(output.len(), at) {
+        return Lister {
+            reader,
+            next: index,
+            end: least(at, output.len()),
+            task: Task::Write,
+        };
+    }
+    let splitter = reader.splitter;
+    let newline: &[u8] = b"\n";
+    let lacking = splitter.lacking();
+    let part = piece_or(piece, &newline[..lacking]);
+    let len = part.len();
+    let listed = list_lines(
         reader,
-        buf,
+        part,
+        index,
+        output,
         at,
         status,
         marks,
@@ -175,64 +155,100 @@ pub fn list_end(
         in_next,
         out_next,
     );
-    put_totals(buf, end, status)
+    finish(listed, len, piece.len(), output, status)
 }
 
-// Ends the last line with the newline that it lacks. Lines are then listed in one place, whose code is not repeated.
-fn list_last(
-    reader: Reader,
-    buf: &mut [u8],
-    at: usize,
-    status: &mut [u8],
-    marks: &mut [u8],
-    from: &mut [u16],
-    to: &mut [u16],
-    successor: &mut [u16],
-    news: &mut [u16],
-    in_head: &mut [u16],
-    out_head: &mut [u16],
-    queue: &mut [u16],
-    visited: &mut [u16],
-    in_next: &mut [u16],
-    out_next: &mut [u16],
-) -> usize
-    requires { ⌜ at + lineRoom ≤ length (now buf) ⌝ }
-    ensures { λ r. ⌜ Lasts (reader .splitter) (reader .engine .graph) (tablesOf (now (status .entry)) (now (marks .entry)) (now (from .entry)) (now (to .entry)) (now (successor .entry)) (now (news .entry)) (now («in_head» .entry)) (now («out_head» .entry)) (now (queue .entry)) (now (visited .entry)) (now («in_next» .entry)) (now («out_next» .entry))) (tablesOf (now (status .exit)) (now (marks .exit)) (now (from .exit)) (now (to .exit)) (now (successor .exit)) (now (news .exit)) (now («in_head» .exit)) (now («out_head» .exit)) (now (queue .exit)) (now (visited .exit)) (now («in_next» .exit)) (now («out_next» .exit))) at (now (buf .entry)) (now (buf .exit)) r ⌝ }
+// Where the next text goes: to the front once the output has been written out.
+fn place(task: Task, end: usize) -> usize
+    ensures { λ r. ⌜ r ≡ placeBy task end ⌝ }
 {
-    let splitter = reader.splitter;
-    if splitter.pending() {
-        let listed = list_part(
-            reader,
-            b"\n",
-            0,
-            buf,
-            at,
-            status,
-            marks,
-            from,
-            to,
-            successor,
-            news,
-            in_head,
-            out_head,
-            queue,
-            visited,
-            in_next,
-            out_next,
-        );
-        return listed.end;
+    match task {
+        Task::Read => end,
+        Task::Write => 0,
+        Task::End => end,
     }
-    at
 }
 
-// The text of what came of a line, by the tables after it.
-fn put_outcome(buf: &mut [u8], at: usize, outcome: Outcome, news: &[u16], status: &[u8]) -> usize
-    requires { ⌜ Printable outcome (now news) × (at + lineRoom ≤ length (now buf)) ⌝ }
-    ensures { λ r. ⌜ WroteAt at (tableText outcome (now (news .entry)) (now (status .entry))) (now (buf .entry)) (now (buf .exit)) r × (r ≤ at + lineRoom) ⌝ }
+// From which index on a piece is read: a new one from its start.
+fn start(task: Task, next: usize, len: usize) -> usize
+    ensures { λ r. ⌜ r ≡ startBy task next len ⌝ }
 {
-    match outcome {
-        Outcome::Nothing => at,
-        Outcome::Accepted { line, count } => put_news(buf, at, line, &news[..count], status),
-        Outcome::Refused { line, number } => put_refusal(buf, at, line, number),
+    match task {
+        Task::Read => 0,
+        Task::Write => least(next, len),
+        Task::End => least(next, len),
+    }
+}
+
+fn least(a: usize, b: usize) -> usize
+    ensures { λ r. ⌜ r ≡ least a b ⌝ }
+{
+    if a <= b { a } else { b }
+}
+
+// Whether the output is short of room behind a place.
+fn is_short(len: usize, at: usize) -> bool
+    ensures { λ r. ⌜ (r ≡ true → len < at + listerRoom) × (r ≡ false → at + listerRoom ≤ len) ⌝ }
+{
+    if len < at {
+        return true;
+    }
+    if len - at < LISTER_ROOM {
+        return true;
+    }
+    false
+}
+
+// What is to be done after lines of a part, `len` bytes long, of a piece of `given` bytes. Where it is the last, the totals are written.
+fn finish(listed: Listed, len: usize, given: usize, output: &mut [u8], status: &[u8]) -> Lister
+    requires { ⌜ listed .end ≤ length (now output) ⌝ }
+    ensures { λ r. ⌜ AfterLines listed len given (now (status .entry)) (now (output .entry)) r (now (output .exit)) ⌝ }
+{
+    let reader = listed.reader;
+    let next = listed.next;
+    let end = listed.end;
+    if next < len {
+        return Lister {
+            reader,
+            next,
+            end,
+            task: Task::Write,
+        };
+    }
+    if 0 < given {
+        if reader.is_over() {
+            return close(listed, output, status);
+        }
+        return Lister {
+            reader,
+            next,
+            end,
+            task: Task::Read,
+        };
+    }
+    close(listed, output, status)
+}
+
+fn close(listed: Listed, output: &mut [u8], status: &[u8]) -> Lister
+    requires { ⌜ listed .end ≤ length (now output) ⌝ }
+    ensures { λ r. ⌜ PutsTotals listed (now (status .entry)) (now (output .entry)) r (now (output .exit)) ⌝ }
+{
+    let reader = listed.reader;
+    let next = listed.next;
+    let end = listed.end;
+    if output.len() - end < TOTALS_ROOM {
+        return Lister {
+            reader,
+            next,
+            end,
+            task: Task::Write,
+        };
+    }
+    let total = put_totals(output, end, status);
+    Lister {
+        reader,
+        next,
+        end: total,
+        task: Task::End,
     }
 }

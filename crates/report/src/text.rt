@@ -1,14 +1,16 @@
 // The text of printed lines, each written at a place of a lent buffer. Each call returns the place after what it wrote.
-ghost use mathlib.Core.Path.{_≡_};
-ghost use mathlib.Core.List.{List};
-ghost use Prim.Native.Nat.{ℕ, _≤_, _<_, _+_, _*_};
+ghost use Prim.Native.Nat.{_≤_, _<_, _+_, _*_};
 ghost use lib.ListN.{length, getD};
-ghost use Rattle.record.specs.Text.{decimal, WroteAt};
-ghost use Rattle.report.specs.Texts.{header, ending, row, refusedText, verdictWord, newsText, totalsOf, totalsText};
+ghost use Rattle.record.specs.Text.{WroteAt};
+ghost use Rattle.report.specs.Texts.{totalsRoom, header, ending, row, refusedText, verdictWord, newsText, totalsOf, totalsText};
 use crate::totals::count;
-use crate::totals::status_of;
-use record::put_bytes;
-use record::put_number;
+use record::put_bytes_at;
+use record::put_number_at;
+use tables::LIVE;
+use tables::status_of;
+
+// The room that the totals take.
+pub const TOTALS_ROOM: usize = 80;
 
 pub fn put_header(buf: &mut [u8], at: usize) -> usize
     requires { ⌜ at + 20 ≤ length (now buf) ⌝ }
@@ -45,7 +47,7 @@ fn put_verdict(buf: &mut [u8], at: usize, line: usize, status: u8, state: usize)
     requires { ⌜ (line < 100000) × (state < 100000) × (at + 17 ≤ length (now buf)) ⌝ }
     ensures { λ r. ⌜ WroteAt at (row line (verdictWord status) state) (now (buf .entry)) (now (buf .exit)) r ⌝ }
 {
-    if status == 3 {
+    if status == LIVE {
         return put_row(buf, at, line, b" live ", state);
     }
     put_row(buf, at, line, b" dead ", state)
@@ -53,7 +55,7 @@ fn put_verdict(buf: &mut [u8], at: usize, line: usize, status: u8, state: usize)
 
 // The four lines of the totals.
 pub fn put_totals(buf: &mut [u8], at: usize, status: &[u8]) -> usize
-    requires { ⌜ at + 80 ≤ length (now buf) ⌝ }
+    requires { ⌜ at + totalsRoom ≤ length (now buf) ⌝ }
     ensures { λ r. ⌜ WroteAt at (totalsText (totalsOf (λ s. getD (now (status .entry)) s 0))) (now (buf .entry)) (now (buf .exit)) r ⌝ }
 {
     let counts = count(status);
@@ -81,18 +83,4 @@ fn put_ending(buf: &mut [u8], at: usize, word: &[u8], number: usize) -> usize
     let end = put_number_at(buf, behind, number);
     buf[end] = b'\n';
     end + 1
-}
-
-pub fn put_bytes_at(buf: &mut [u8], at: usize, s: &[u8]) -> usize
-    requires { ⌜ at + length (now s) ≤ length (now buf) ⌝ }
-    ensures { λ r. ⌜ WroteAt at (now (s .entry)) (now (buf .entry)) (now (buf .exit)) r ⌝ }
-{
-    at + put_bytes(&mut buf[at..], s)
-}
-
-pub fn put_number_at(buf: &mut [u8], at: usize, value: usize) -> usize
-    requires { ⌜ at + length (decimal value) ≤ length (now buf) ⌝ }
-    ensures { λ r. ⌜ WroteAt at (decimal value) (now (buf .entry)) (now (buf .exit)) r ⌝ }
-{
-    at + put_number(&mut buf[at..], value)
 }

@@ -1,8 +1,13 @@
 // The four counts at the end of a listing.
 ghost use mathlib.Core.Path.{_≡_};
-ghost use Prim.Native.Nat.{ℕ};
 ghost use lib.ListN.{getD};
 ghost use Rattle.report.specs.Texts.{totalsOf};
+use tables::DEAD;
+use tables::LIVE;
+use tables::MAX_STATES;
+use tables::OPEN;
+use tables::UNKNOWN;
+use tables::status_of;
 
 pub struct Totals {
     pub open: usize,
@@ -20,12 +25,12 @@ pub fn count(status: &[u8]) -> Totals
     let mut live = 0;
     let mut dead = 0;
     let mut i = 0;
-    while i < 2048 {
+    while i < MAX_STATES {
         let k = status_of(status, i);
-        open += (k == 1) as usize;
-        unknown += (k == 2) as usize;
-        live += (k == 3) as usize;
-        dead += (k == 4) as usize;
+        open += (k == OPEN) as usize;
+        unknown += (k == UNKNOWN) as usize;
+        live += (k == LIVE) as usize;
+        dead += (k == DEAD) as usize;
         i += 1;
     }
     Totals {
@@ -34,14 +39,4 @@ pub fn count(status: &[u8]) -> Totals
         live,
         dead,
     }
-}
-
-// The status of a state, unseen past the table's end.
-pub fn status_of(status: &[u8], s: usize) -> u8
-    ensures { λ r. ⌜ r ≡ getD (now (status .entry)) s 0 ⌝ }
-{
-    if s < status.len() {
-        return status[s];
-    }
-    0
 }

@@ -1,14 +1,11 @@
 -- Counting: what changing one state does to a count.
 -- Assumes nothing.
-use mathlib.Core.Path.{_≡_, refl, sym, _∙_, ap}
+use mathlib.Core.Path.{_≡_, refl, sym, _∙_}
 use mathlib.Core.Bool.{Bool, true, false, cond, false≢true}
-use mathlib.Core.List.{List}
 use Prim.Native.Nat.{ℕ, zero, suc, _+_, _≤_, _<_}
 use native.Mathlib.Omega.{arith}
 use native.Mathlib.Decide.{ℕ-discrete}
-use lib.ListN.{length, getD, set, length-set}
-use lib.Seq.{getD-set-other}
-use Rattle.search.specs.Counting.{count, Kept}
+use Rattle.search.specs.Counting.{count}
 
 pub count-most : (n : ℕ) (f : ℕ → Bool) → count n f ≤ n
 unfolding count
@@ -52,13 +49,3 @@ count-less (suc n) f u h e = at (ℕ-discrete u n) (f n) refl (λ q. count-less 
     at d false k i = let m = count-most n f in omega arith
     at (yes q) true k i = absurd (false≢true (sym e ∙ rw q k))
     at (no d) true k i = let m = i (omega arith) in omega arith
-
-pub kept-none : (n : ℕ) (l : List ℕ) → Kept n l l
-kept-none n l = record { size = refl; past = λ i h. refl }
-
-pub kept-trans : {n : ℕ} {l k m : List ℕ} → Kept n l k → Kept n k m → Kept n l m
-kept-trans a b = record { size = b .size ∙ a .size; past = λ i h. b .past i h ∙ a .past i h }
-
--- a store below n
-pub kept-set : (n : ℕ) (l : List ℕ) (s v : ℕ) → s < n → Kept n l (set l s v)
-kept-set n l s v h = record { size = length-set l s v; past = λ i k. getD-set-other l s i v 0 (λ e. absurd (omega arith)) }

@@ -1,19 +1,19 @@
 -- The laws of the visited marks: setting or clearing one leaves every other as it was.
 -- Assumes nothing.
-use mathlib.Core.Path.{_≡_, refl, sym, _∙_}
-use mathlib.Core.Bool.{Bool, true, false, not}
+use mathlib.Core.Path.{_≡_, sym, _∙_}
+use mathlib.Core.Bool.{true, false, not}
 use mathlib.Core.List.{List}
 use Prim.Native.Nat.{ℕ, _+_, _≤_, _<_}
 use native.Mathlib.Omega.{arith}
 use native.Mathlib.Decide.{ℕ-discrete}
-use lib.Dec.{eqb}
-use lib.ListN.{length, getD, set, length-set}
+use lib.ListN.{length, length-set}
 use lib.Seq.{getD-set-same, getD-set-other}
-use borrow.Author.Tests.{eq-eqb, ne-eqb}
 use Rattle.tables.specs.Work.{marked}
-use Rattle.search.specs.Counting.{count, Kept}
+use Rattle.tables.specs.Keeping.{Kept}
+use Rattle.search.specs.Counting.{count}
 use Rattle.search.specs.Marking.{mark, unmark}
-use Rattle.search.proofs.Counting.{count-one, kept-set}
+use Rattle.tables.proofs.Keeping.{kept-set}
+use Rattle.search.proofs.Counting.{count-one}
 
 module _ (l : List ℕ) (s : ℕ) where
   pub marked-mark : s < length l → marked (mark l s) s ≡ true
@@ -43,10 +43,6 @@ module _ (l : List ℕ) (s : ℕ) where
   pub length-mark : length (mark l s) ≡ length l
   unfolding mark
   length-mark = length-set l s 1
-
-  pub length-unmark : length (unmark l s) ≡ length l
-  unfolding unmark
-  length-unmark = length-set l s 0
 
   module _ (n : ℕ) (h : s < n) where
     pub kept-mark : Kept n l (mark l s)

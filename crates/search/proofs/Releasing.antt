@@ -16,7 +16,8 @@ use Rattle.search.specs.Marking.{unmark}
 use Rattle.search.specs.Spreading.{Arcs}
 use Rattle.search.specs.Releasing.{hopeful, leadsOut, Before, Way, beyond, onto, towards, Released, NoEscape, Escapes}
 use Rattle.search.specs.Rescuing.{WayOut, none, found, Tried, stays, leaves}
-use Rattle.search.proofs.Counting.{count-most, kept-none, kept-trans, kept-set}
+use Rattle.tables.proofs.Keeping.{kept-none, kept-trans, kept-set}
+use Rattle.search.proofs.Counting.{count-most}
 use Rattle.search.proofs.Marking.{marked-unmark, marked-unmark-other, kept-unmark, visited-unmark}
 
 -- A test is not both, and is one of the two.

@@ -15,7 +15,7 @@ use Rattle.search.specs.Marking.{unmark}
 use Rattle.search.specs.Spreading.{Arcs}
 use Rattle.search.specs.Releasing.{Before, towards, NoRescue, QueuedBelow, Rescues}
 use Rattle.search.specs.Rescuing.{Pulled, passed, pulled, Rescuing, NoSource}
-use Rattle.search.proofs.Counting.{kept-none, kept-trans, kept-set}
+use Rattle.tables.proofs.Keeping.{kept-none, kept-trans, kept-set}
 use Rattle.search.proofs.Marking.{marked-unmark, kept-unmark, visited-unmark}
 use Rattle.search.proofs.Walking.{Walking, walk-first, walk-here, walk-next, walk-end, walk-done}
 use Rattle.search.proofs.Releasing.{room-left, unmarked-stays, released-more}
@@ -133,6 +133,7 @@ module _ {into : Arcs} {visited₀ successor₀ queue₀ : List ℕ} {len : ℕ}
         record {
           released = saving .part .released;
           noRescue = λ j l. saving .noRescue j (omega arith);
+          shrinks = saving .part .shrinks;
           queues = saving .part .queues;
           visits = saving .part .visits;
           successors = saving .part .successors;

@@ -16,10 +16,10 @@ use Rattle.gid.specs.News.{below}
 use Rattle.gid.specs.Successors.{noSuccessor}
 use Rattle.gid.proofs.News.{below-none}
 use Rattle.tables.specs.Work.{marked}
-use Rattle.search.specs.Counting.{Kept}
+use Rattle.tables.specs.Keeping.{Kept}
 use Rattle.search.specs.Marking.{unmark}
 use Rattle.search.specs.Settling.{settledFrom, Settled, SettledOne, passed, settled}
-use Rattle.search.proofs.Counting.{kept-none, kept-trans}
+use Rattle.tables.proofs.Keeping.{kept-none, kept-trans}
 use Rattle.search.proofs.Marking.{marked-unmark, marked-unmark-other, kept-unmark}
 
 -- Of the states that are settled, those below s.

@@ -13,8 +13,9 @@ use Rattle.tables.specs.Work.{marked}
 use Rattle.search.specs.declared.spread.Span.{Span}
 use Rattle.search.specs.Spreading.{Arcs, Reached, start, back, Spread}
 use Rattle.search.specs.Releasing.{Before}
-use Rattle.search.specs.Offering.{unvisited, Begun, Spreading, Offers, source, Closed}
-use Rattle.search.proofs.Counting.{count-less, kept-set}
+use Rattle.search.specs.Offering.{unvisited, Begun, Spreading, Offers, sourceAt, SourcesVisited}
+use Rattle.tables.proofs.Keeping.{kept-set}
+use Rattle.search.proofs.Counting.{count-less}
 use Rattle.search.proofs.Marking.{marked-mark, marked-mark-other, kept-mark, mark-grows}
 
 -- The start is visited and queued.
@@ -63,7 +64,7 @@ pub record Rounds (a : Arcs) (ok : ℕ → ℕ → Bool) (v q : List ℕ) (s : S
   pub room : s′ .len + unvisited (a .n) v′ ≤ a .n
   pub visits : length v′ ≡ length v
   pub queues : length q′ ≡ length q
-  pub closed : (j : ℕ) → j < k → Closed a ok v′ (getD q′ j 0)
+  pub closed : (j : ℕ) → j < k → SourcesVisited a ok v′ (getD q′ j 0)
   pub spreads : (u : ℕ) (v₀ q₀ : List ℕ) →
       Spreading a (λ y p. not (marked v₀ y) && ok y p) u v₀ q₀ v q s →
       Spreading a (λ y p. not (marked v₀ y) && ok y p) u v₀ q₀ v′ q′ s′
@@ -79,7 +80,7 @@ module _ {a : Arcs} {ok : ℕ → ℕ → Bool} {v q : List ℕ} {s : Span} wher
     spreads = λ u v₀ q₀ sp. sp;
   }
 
-  pub rounds-more : {v′ q′ v″ q″ : List ℕ} {s′ s″ : Span} {k x : ℕ} → Rounds a ok v q s v′ q′ s′ k → k < s′ .len → x ≡ getD q′ k 0 → Offers a ok x v′ q′ s′ v″ q″ s″ → Closed a ok v″ x → Rounds a ok v q s v″ q″ s″ (k + 1)
+  pub rounds-more : {v′ q′ v″ q″ : List ℕ} {s′ s″ : Span} {k x : ℕ} → Rounds a ok v q s v′ q′ s′ k → k < s′ .len → x ≡ getD q′ k 0 → Offers a ok x v′ q′ s′ v″ q″ s″ → SourcesVisited a ok v″ x → Rounds a ok v q s v″ q″ s″ (k + 1)
   rounds-more {q′} {v″} {q″} {s′} {k} {x} r h e o c = record {
     few = let l = o .longer in omega arith;
     room = o .room;
@@ -89,14 +90,14 @@ module _ {a : Arcs} {ok : ℕ → ℕ → Bool} {v q : List ℕ} {s : Span} wher
     spreads = λ u v₀ q₀ sp. o .spreads u v₀ q₀ (k, h, sym e) (r .spreads u v₀ q₀ sp);
   }
     where
-      at : (j : ℕ) → j < k + 1 → Dec (j ≡ k) → Closed a ok v″ (getD q″ j 0)
+      at : (j : ℕ) → j < k + 1 → Dec (j ≡ k) → SourcesVisited a ok v″ (getD q″ j 0)
       at j l (yes z) = rw (z, o .older k h, sym e) c
       at j l (no d) =
           let b : j < k = omega arith in
-          rw (o .older j (omega arith)) (λ i link t p. o .grows (source a i) (r .closed j b i link t p))
+          rw (o .older j (omega arith)) (λ i link t p. o .grows (sourceAt a i) (r .closed j b i link t p))
 
 -- Where the sources of every queued state have been offered, all that is reached is queued.
-module _ {a : Arcs} (ok : ℕ → ℕ → Bool) {u : ℕ} {v₀ q₀ v q : List ℕ} {s : Span} (sp : Spreading a (λ y p. not (marked v₀ y) && ok y p) u v₀ q₀ v q s) (room : s .len + unvisited (a .n) v ≤ a .n) (closed : (j : ℕ) → j < s .len → Closed a ok v (getD q j 0)) where
+module _ {a : Arcs} (ok : ℕ → ℕ → Bool) {u : ℕ} {v₀ q₀ v q : List ℕ} {s : Span} (sp : Spreading a (λ y p. not (marked v₀ y) && ok y p) u v₀ q₀ v q s) (room : s .len + unvisited (a .n) v ≤ a .n) (closed : (j : ℕ) → j < s .len → SourcesVisited a ok v (getD q j 0)) where
   reached-queued : {w : ℕ} → Reached a (λ y p. not (marked v₀ y) && ok y p) u w → Before q (s .len) w
   reached-queued (start e) = let b = sp .begins in (b .0, b .1, b .2 ∙ sym e)
   reached-queued (back {v = x} {i} {s = w} r link e h fresh) = at (marked v₀ w) refl (reached-queued r)

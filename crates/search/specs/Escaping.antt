@@ -3,8 +3,8 @@
 use mathlib.Core.Path.{_≡_}
 use mathlib.Core.Logic.{_⊎_}
 use mathlib.Core.List.{List}
-use Prim.Native.Nat.{ℕ, zero, suc, _+_, _≤_, _<_}
-use lib.ListN.{length, getD}
+use Prim.Native.Nat.{ℕ, _+_, _<_}
+use lib.ListN.{getD}
 use Rattle.gid.specs.Statuses.{statusOpen, statusUnknown}
 use Rattle.gid.specs.Successors.{Chain, Having}
 use Rattle.adjacency.specs.Walks.{Linked}

@@ -9,7 +9,8 @@ use lib.ListN.{length, getD, set}
 use Rattle.tables.specs.Work.{marked}
 use Rattle.adjacency.specs.Walks.{Linked}
 use Rattle.search.specs.declared.spread.Span.{Span}
-use Rattle.search.specs.Counting.{Kept, count}
+use Rattle.tables.specs.Keeping.{Kept}
+use Rattle.search.specs.Counting.{count}
 use Rattle.search.specs.Marking.{mark}
 use Rattle.search.specs.Spreading.{Arcs, Reached}
 use Rattle.search.specs.Releasing.{Before}
@@ -66,13 +67,13 @@ pub record Offers (a : Arcs) (ok : ℕ → ℕ → Bool) (x : ℕ) (visited queu
       Spreading a (λ y i. not (marked visited₀ y) && ok y i) u visited₀ queue₀ visited′ queue′ span′
 
 -- The source of the step i.
-abbrev pub source : Arcs → ℕ → ℕ
-source a i = getD (a .ends) i 0
+abbrev pub sourceAt : Arcs → ℕ → ℕ
+sourceAt a i = getD (a .ends) i 0
 
 -- Where it is a state that passes the test, it is visited.
 abbrev pub Visited : Arcs → (ℕ → ℕ → Bool) → List ℕ → ℕ → Type 0
-Visited a ok visited i = source a i < a .n → ok (source a i) i ≡ true → marked visited (source a i) ≡ true
+Visited a ok visited i = sourceAt a i < a .n → ok (sourceAt a i) i ≡ true → marked visited (sourceAt a i) ≡ true
 
 -- So is the source of each step into x.
-abbrev pub Closed : Arcs → (ℕ → ℕ → Bool) → List ℕ → ℕ → Type 0
-Closed a ok visited x = (i : ℕ) → Linked (a .head) (a .next) (a .m) x i → Visited a ok visited i
+abbrev pub SourcesVisited : Arcs → (ℕ → ℕ → Bool) → List ℕ → ℕ → Type 0
+SourcesVisited a ok visited x = (i : ℕ) → Linked (a .head) (a .next) (a .m) x i → Visited a ok visited i

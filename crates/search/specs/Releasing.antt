@@ -6,11 +6,12 @@ use mathlib.Core.Bool.{Bool, true, false, not, _&&_, _||_}
 use mathlib.Core.List.{List}
 use Prim.Native.Nat.{ℕ, _+_, _≤_, _<_}
 use lib.Dec.{eqb, ltb}
-use lib.ListN.{length, getD}
+use lib.ListN.{getD}
 use Rattle.gid.specs.Statuses.{statusOpen, statusUnknown}
 use Rattle.tables.specs.Work.{marked}
 use Rattle.adjacency.specs.Walks.{Linked}
-use Rattle.search.specs.Counting.{Kept, count}
+use Rattle.tables.specs.Keeping.{Kept}
+use Rattle.search.specs.Counting.{count}
 use Rattle.search.specs.Spreading.{Arcs}
 
 -- A state of the tables that is open or unknown.
@@ -67,6 +68,7 @@ pub record Escapes (out : Arcs) (status visited successor queue visited′ succe
 pub record Rescues (into : Arcs) (visited successor queue visited′ successor′ queue′ : List ℕ) (len k : ℕ) : Type 0 where
   pub released : (out : Arcs) (status visited₀ successor₀ : List ℕ) → out .n ≡ into .n → Released out into status visited₀ successor₀ visited successor queue len → Released out into status visited₀ successor₀ visited′ successor′ queue′ k
   pub noRescue : NoRescue into visited′ queue′ k
+  pub shrinks : (s : ℕ) → marked visited s ≡ false → marked visited′ s ≡ false
   pub queues : Kept (into .n) queue queue′
   pub visits : Kept (into .n) visited visited′
   pub successors : Kept (into .n) successor successor′

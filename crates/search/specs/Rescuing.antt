@@ -8,7 +8,8 @@ use Prim.Native.Nat.{ℕ, _+_, _≤_, _<_}
 use lib.ListN.{getD, set}
 use Rattle.tables.specs.Work.{marked}
 use Rattle.adjacency.specs.Walks.{Linked}
-use Rattle.search.specs.Counting.{Kept, count}
+use Rattle.tables.specs.Keeping.{Kept}
+use Rattle.search.specs.Counting.{count}
 use Rattle.search.specs.Marking.{unmark}
 use Rattle.search.specs.Spreading.{Arcs, arcs}
 use Rattle.search.specs.Releasing.{leadsOut, QueuedBelow, Released}
@@ -61,8 +62,8 @@ NoSource into visited x =
     (p : ℕ) → Linked (into .head) (into .next) (into .m) x p → getD (into .ends) p 0 < into .n → marked visited (getD (into .ends) p 0) ≡ false
 
 -- Steps by their targets alone.
-abbrev pub targets : ℕ → ℕ → List ℕ → Arcs
-targets n m to = arcs n m to [] []
+abbrev pub byTarget : ℕ → ℕ → List ℕ → Arcs
+byTarget n m to = arcs n m to [] []
 
 -- Where the successor of s leads: no state, or the target of the step.
 abbrev pub Followed : Arcs → List ℕ → List ℕ → ℕ → ℕ → Type 0

@@ -3,13 +3,13 @@
 use mathlib.Core.Path.{_≡_}
 use mathlib.Core.Bool.{Bool, true, false, cond, not, _&&_}
 use mathlib.Core.List.{List}
-use Prim.Native.Nat.{ℕ, suc, _+_, _≤_, _<_}
+use Prim.Native.Nat.{ℕ, suc, _+_, _≤_}
 use lib.Dec.{leb}
 use lib.ListN.{length, getD, set, take}
 use Rattle.gid.specs.News.{below}
 use Rattle.gid.specs.Successors.{noSuccessor}
 use Rattle.tables.specs.Work.{marked}
-use Rattle.search.specs.Counting.{Kept}
+use Rattle.tables.specs.Keeping.{Kept}
 use Rattle.search.specs.Marking.{unmark}
 
 -- The states that are settled: visited, and from low to high.

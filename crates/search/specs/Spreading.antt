@@ -13,7 +13,7 @@ use Rattle.adjacency.specs.Walks.{Linked}
 use Rattle.search.specs.declared.spread.Mode.{Mode}
 use Rattle.search.specs.declared.spread.Mode.the-variants.{Live, Tree, Claimed}
 use Rattle.search.specs.declared.spread.Span.{Span}
-use Rattle.search.specs.Counting.{Kept}
+use Rattle.tables.specs.Keeping.{Kept}
 
 -- The first m steps over n states, chained at one end, with the list of their other ends.
 pub record Arcs : Type 0 where

@@ -6,7 +6,7 @@ ghost use Prim.Native.Nat.{_≤_, _<_};
 ghost use lib.ListN.{length, getD};
 ghost use Rattle.search.specs.Spreading.{arcs, Walkable};
 ghost use Rattle.search.specs.Escaping.{Escape, Near};
-ghost use Rattle.search.specs.Rescuing.{targets, Followed};
+ghost use Rattle.search.specs.Rescuing.{byTarget, Followed};
 use adjacency::after;
 use tables::OPEN;
 use tables::UNKNOWN;
@@ -52,7 +52,7 @@ fn meets_open(
     successor: &[u16],
 ) -> bool
     requires { ⌜ (steps ≤ length (now to)) × (n ≤ length (now status)) × (n ≤ length (now successor)) ⌝ }
-    ensures { λ r. ⌜ (r ≡ true → Near (targets n steps (now (to .entry))) (now (status .entry)) (now (successor .entry)) start) ⌝ }
+    ensures { λ r. ⌜ (r ≡ true → Near (byTarget n steps (now (to .entry))) (now (status .entry)) (now (successor .entry)) start) ⌝ }
 {
     let mut s = start;
     let mut left = NEAR + 1;
@@ -72,7 +72,7 @@ fn meets_open(
 // The state that the successor of s leads to, or n (or more) where s is not unknown or its successor is no listed step.
 fn follow(n: usize, steps: usize, s: usize, to: &[u16], status: &[u8], successor: &[u16]) -> usize
     requires { ⌜ (s < n) × (steps ≤ length (now to)) × (n ≤ length (now status)) × (n ≤ length (now successor)) ⌝ }
-    ensures { λ r. ⌜ Followed (targets n steps (now (to .entry))) (now (status .entry)) (now (successor .entry)) s r ⌝ }
+    ensures { λ r. ⌜ Followed (byTarget n steps (now (to .entry))) (now (status .entry)) (now (successor .entry)) s r ⌝ }
 {
     if status[s] != UNKNOWN {
         return n;

@@ -3,7 +3,7 @@ ghost use mathlib.Core.Path.{_≡_};
 ghost use Prim.Native.Nat.{ℕ, _+_, _≤_, _<_};
 ghost use lib.ListN.{length, getD};
 ghost use Rattle.search.specs.Spreading.{arcs, Walkable, allowed, fresh, Spread};
-ghost use Rattle.search.specs.Offering.{unvisited, Begun, Admitted, Offered, Offers, Closed};
+ghost use Rattle.search.specs.Offering.{unvisited, Begun, Admitted, Offered, Offers, SourcesVisited};
 use super::visits::is_visited;
 use super::visits::set_visited;
 use adjacency::after;
@@ -94,7 +94,7 @@ fn offer_sources(
     ensures { λ r. ⌜ Offers (arcs n steps (now (from .entry)) (now («in_head» .entry)) (now («in_next» .entry)))
         (allowed mode (now (status .entry)) (now (successor .entry)))
         x (now (visited .entry)) (now (queue .entry)) before (now (visited .exit)) (now (queue .exit)) r ⌝ }
-    ensures { λ r. ⌜ Closed (arcs n steps (now (from .entry)) (now («in_head» .entry)) (now («in_next» .entry)))
+    ensures { λ r. ⌜ SourcesVisited (arcs n steps (now (from .entry)) (now («in_head» .entry)) (now («in_next» .entry)))
         (allowed mode (now (status .entry)) (now (successor .entry))) (now (visited .exit)) x ⌝ }
 {
     let mut span = before;

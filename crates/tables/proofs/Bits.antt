@@ -1,12 +1,16 @@
--- The marks on any byte: setting one sets it, leaves the other two as they were, and clears none.
+-- The marks of a state. On any byte: setting one sets it, leaves the other two as they were, and clears none. On the byte of three marks: what is read and what setting one gives.
 -- Assumes nothing.
-use mathlib.Core.Path.{_≡_, refl, sym, ap}
-use mathlib.Core.Bool.{Bool, true, false}
+use mathlib.Core.Path.{_≡_}
+use mathlib.Core.Bool.{Bool, true, false, cond}
 use Prim.Native.Nat.{ℕ, _+_, _*_, _-_, _/_, _%_, _<_, _≤_}
 use native.Mathlib.Omega.{arith}
+use native.Mathlib.Nat.{mul-one, mul-zero}
+use native.Mathlib.Decide.{ℕ-discrete}
 use lib.Dec.{eqb}
-use borrow.Author.Tests.{eq-eqb}
+use Rattle.gid.specs.Histories.{History}
+use Rattle.gid.specs.Statuses.{isNamed, isTerminal, isClosed}
 use Rattle.tables.specs.Marks.{hasNamed, hasTerminal, hasClosed, withNamed, withTerminal, withClosed}
+use Rattle.tables.specs.Fitting.{marksOf}
 
 quarter : (x : ℕ) → x / 4 ≡ x / 2 / 2
 quarter x = omega arith
@@ -44,3 +48,51 @@ module _ (m : ℕ) where
   pub closed-byte : m < 256 → withClosed m < 256
   unfolding withClosed
   closed-byte h = omega arith
+
+-- The byte of three marks: named, terminal, closed.
+unfoldable pub bits : Bool → Bool → Bool → ℕ
+bits a b c = cond a 1 0 + cond b 2 0 + cond c 4 0
+
+-- What is read of it, what setting a mark makes of it, and how large it is.
+pub record Byte (a b c : Bool) : Type 0 where
+  pub named : hasNamed (bits a b c) ≡ a
+  pub terminal : hasTerminal (bits a b c) ≡ b
+  pub closed : hasClosed (bits a b c) ≡ c
+  pub set-named : withNamed (bits a b c) ≡ bits true b c
+  pub set-terminal : withTerminal (bits a b c) ≡ bits a true c
+  pub set-closed : withClosed (bits a b c) ≡ bits a b true
+  pub low : bits a b c ≤ 7
+
+pub byte : (a b c : Bool) → Byte a b c
+unfolding bits withNamed withTerminal withClosed
+byte true true true = search arith
+byte true true false = search arith
+byte true false true = search arith
+byte true false false = search arith
+byte false true true = search arith
+byte false true false = search arith
+byte false false true = search arith
+byte false false false = search arith
+
+-- The weight of a bit.
+weigh : (w x : ℕ) → cond (eqb (x % 2) 1) w 0 ≡ w * (x % 2)
+weigh w x = at (ℕ-discrete (x % 2) 1)
+  where
+    at : Dec (x % 2 ≡ 1) → cond (eqb (x % 2) 1) w 0 ≡ w * (x % 2)
+    at (yes e) = rw (e, mul-one)
+    at (no d) = let z : x % 2 ≡ 0 = omega arith in rw (z, mul-zero)
+
+-- A byte that fits is that of its marks.
+pub byte-sum : (m : ℕ) → m ≤ 7 → bits (hasNamed m) (hasTerminal m) (hasClosed m) ≡ m
+unfolding bits
+byte-sum m h =
+    let a : m / 4 % 2 ≡ m / 4 = omega arith in
+    rw (weigh 1 m, weigh 2 (m / 2), weigh 4 (m / 4)) (omega (arith, quarter m))
+
+-- The marks of tables that fit are the history's.
+pub marks-bits : (h : History) (s : ℕ) → (hasNamed (marksOf h s) ≡ isNamed h s) × (hasTerminal (marksOf h s) ≡ isTerminal h s) × (hasClosed (marksOf h s) ≡ isClosed h s)
+unfolding marksOf bits
+marks-bits h s = let r = byte (isNamed h s) (isTerminal h s) (isClosed h s) in (r .named, r .terminal, r .closed)
+
+pub closed-bit : (h : History) (s : ℕ) → hasClosed (marksOf h s) ≡ isClosed h s
+closed-bit h s = marks-bits h s .2

@@ -1,4 +1,5 @@
 -- The laws of the tables and of the refusals.
+pub mod Keeping
 pub mod Refusing
 pub mod Sizes
 pub mod Bits

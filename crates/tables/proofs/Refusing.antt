@@ -7,15 +7,15 @@ use mathlib.Core.Option.{Option, some, none}
 use Prim.Native.Nat.{ℕ, _<_, _≤_}
 use native.Mathlib.Omega.{arith}
 use lib.Dec.{leb, ltb, eqb}
-use borrow.Author.Tests.{eqb-false, ltb-false, leb-true, not-false}
+use borrow.Author.Tests.{eqb-false, ltb-false, not-false}
 use lib.ListN.{length, getD}
 use Rattle.gid.specs.declared.Update.{Update}
 use Rattle.gid.specs.declared.Update.the-variants.{Step, Terminal, Close}
 use Rattle.gid.specs.Refusals.{Given, Rule, first, lent, sent, refusal, maxStates, maxSteps}
 use Rattle.tables.specs.declared.Graph.{Graph}
-use Rattle.tables.specs.declared.Status.the-variants.{Byte, Refused}
+use Rattle.gid.specs.Outcomes.{refused, accepted as gives}
 use Rattle.tables.specs.Tables.{Tables, enough, needs, lengths}
-use Rattle.tables.specs.Refused.{given, refusalOn, number, lentNumber, sentNumber, statusRules, orByte, statusAnswer}
+use Rattle.tables.specs.Refused.{given, refusalOn, number, lentNumber, sentNumber, statusRules, statusAnswer}
 
 -- No rule of the list has the number 0.
 abbrev pub Numbered : List Rule → Type 0
@@ -127,7 +127,7 @@ lent-leaves g long e =
     }
 
 module _ (g : Graph) (status : List ℕ) (s : ℕ) where
-  pub status-refused : (k : ℕ) → lentNumber g (leb (g .n) (length status)) ≡ k → (k ≡ 0 → ⊥) → Refused k ≡ statusAnswer g status s
+  pub status-refused : (k : ℕ) → lentNumber g (leb (g .n) (length status)) ≡ k → (k ≡ 0 → ⊥) → refused k ≡ statusAnswer g status s
   unfolding statusAnswer
   status-refused k e n =
       rw (first-some (lent (given g (leb (g .n) (length status)) [] status)) (record { applies = leb (g .n) s; number = 5 } ∷ []) k (lent-refuses g (leb (g .n) (length status)) [] status k e n))
@@ -136,11 +136,11 @@ module _ (g : Graph) (status : List ℕ) (s : ℕ) where
     passes : first (statusRules g status s) ≡ first (record { applies = leb (g .n) s; number = 5 } ∷ [])
     passes = first-none (lent (given g (leb (g .n) (length status)) [] status)) (record { applies = leb (g .n) s; number = 5 } ∷ []) (lent-passes g (leb (g .n) (length status)) [] status e)
 
-    pub status-range : leb (g .n) s ≡ true → Refused 5 ≡ statusAnswer g status s
+    pub status-range : leb (g .n) s ≡ true → refused 5 ≡ statusAnswer g status s
     unfolding statusAnswer
     status-range t = rw (passes, t)
 
-    pub status-byte : leb (g .n) s ≡ false → Byte (getD status s 0) ≡ statusAnswer g status s
+    pub status-byte : leb (g .n) s ≡ false → gives (getD status s 0) ≡ statusAnswer g status s
     unfolding statusAnswer
     status-byte t = rw (passes, t)
 

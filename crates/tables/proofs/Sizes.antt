@@ -1,9 +1,68 @@
--- "Work tables of 16-bit numbers, together at most 4n + 4 × limit entries."
+-- The needed lengths: "Work tables of 16-bit numbers, together at most 4n + 4 × limit entries." And what it means that they are enough, table by table.
 -- Assumes nothing.
+use mathlib.Core.Path.{_≡_, refl}
+use mathlib.Core.Bool.{Bool, true, false, _&&_, false≢true}
+use mathlib.Core.List.{List, [], _∷_}
 use Prim.Native.Nat.{ℕ, _+_, _*_, _≤_}
 use native.Mathlib.Omega.{arith}
+use lib.Dec.{leb}
+use lib.ListN.{length}
+use borrow.Author.Tests.{leb-true}
 use Rattle.tables.specs.declared.lengths.Lengths.{Lengths}
-use Rattle.tables.specs.Tables.{workNeeds, total}
+use Rattle.tables.specs.Tables.{Tables, Needed, enough, workNeeds, checkNeeds, needs, lengths, total, Long}
 
 pub work-fits : (n limit : ℕ) (l : Lengths) → total (workNeeds n limit l) ≤ 4 * n + 4 * limit
 work-fits n limit l = omega arith
+
+-- each table is long enough
+abbrev Each : List Needed → Type 0
+Each [] = Unit {0}
+Each (x ∷ l) = (x .need ≤ x .have) × Each l
+
+each-enough : (l : List Needed) → enough l ≡ true → Each l
+each-enough [] e = tt
+each-enough (x ∷ l) e = at (leb (x .need) (x .have)) refl e (each-enough l)
+  where
+    at : (b : Bool) → leb (x .need) (x .have) ≡ b → b && enough l ≡ true → (enough l ≡ true → Each l) → (x .need ≤ x .have) × Each l
+    at true q z i = (leb-true (x .need) (x .have) q, i z)
+    at false q z i = absurd (false≢true z)
+
+module _ (n limit : ℕ) (t : Tables) where
+  long-each : Each (checkNeeds n limit (lengths t)) → Long n limit t
+  long-each a =
+      record {
+        status = a .0;
+        marks = a .1 .0;
+        from = a .1 .1 .0;
+        to = a .1 .1 .1 .0;
+        successor = a .1 .1 .1 .1 .0;
+        inHead = a .1 .1 .1 .1 .1 .0;
+        outHead = a .1 .1 .1 .1 .1 .1 .0;
+        queue = a .1 .1 .1 .1 .1 .1 .1 .0;
+        visited = a .1 .1 .1 .1 .1 .1 .1 .1 .0;
+        inNext = a .1 .1 .1 .1 .1 .1 .1 .1 .1 .0;
+        outNext = a .1 .1 .1 .1 .1 .1 .1 .1 .1 .1 .0;
+      }
+
+  pub long-checked : enough (checkNeeds n limit (lengths t)) ≡ true → Long n limit t
+  long-checked e = long-each (each-enough (checkNeeds n limit (lengths t)) e)
+
+  pub long-enough : enough (needs n limit (lengths t)) ≡ true → (n ≤ length (t .news)) × Long n limit t
+  long-enough e = let a = each-enough (needs n limit (lengths t)) e in (a .0, long-each (a .1))
+
+-- for fewer steps than the limit
+pub long-fewer : {n limit m : ℕ} {t : Tables} → m ≤ limit → Long n limit t → Long n m t
+long-fewer h l =
+    record {
+      status = l .status;
+      marks = l .marks;
+      from = omega (arith, l .from);
+      to = omega (arith, l .to);
+      successor = l .successor;
+      inHead = l .inHead;
+      outHead = l .outHead;
+      queue = l .queue;
+      visited = l .visited;
+      inNext = omega (arith, l .inNext);
+      outNext = omega (arith, l .outNext);
+    }

@@ -1,13 +1,12 @@
 -- Fresh tables fit for the empty history.
 -- Assumes nothing.
-use mathlib.Core.Path.{_≡_, refl, sym, _∙_}
+use mathlib.Core.Path.{_≡_, sym, _∙_}
 use mathlib.Core.List.{[], List·Memᴰ·not-nil}
-use Prim.Native.Nat.{ℕ, zero, suc, _<_, _≤_}
+use Prim.Native.Nat.{ℕ, _<_}
 use native.Mathlib.Omega.{arith}
-use lib.ListN.{length, getD, take}
+use lib.ListN.{getD}
 use Rattle.gid.specs.Statuses.{isNamed, isTerminal, isClosed, status, statusUnknown}
 use Rattle.gid.proofs.Statuses.{status-unseen}
-use Rattle.gid.specs.Successors.{noSuccessor}
 use Rattle.gid.proofs.Chains.{successor-rule}
 use Rattle.tables.specs.declared.Graph.{Graph}
 use Rattle.tables.specs.Tables.{Tables}

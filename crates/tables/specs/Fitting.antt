@@ -1,16 +1,16 @@
 -- "Tables fit when some legal history gives these marks, this step list and these statuses, and the successor rule holds" (work tables included, by the work rule).
 -- Assumes nothing.
 use mathlib.Core.Path.{_≡_}
-use mathlib.Core.Bool.{Bool, cond}
+use mathlib.Core.Bool.{cond}
 use mathlib.Core.List.{List, [], _∷_, _++_}
-use Prim.Native.Nat.{ℕ, zero, suc, _+_, _*_, _<_, _≤_}
-use lib.ListN.{getD, take, length, replicate}
+use Prim.Native.Nat.{ℕ, _+_, _<_}
+use lib.ListN.{getD, take, length}
 use Rattle.gid.specs.declared.Update.the-variants.{Step, Terminal, Close}
 use Rattle.gid.specs.Histories.{History, Legal, IsNamed}
 use Rattle.gid.specs.Statuses.{isNamed, isTerminal, isClosed, status}
 use Rattle.gid.specs.Successors.{SuccessorRule, noSuccessor}
 use Rattle.tables.specs.declared.Graph.{Graph}
-use Rattle.tables.specs.Tables.{Tables}
+use Rattle.tables.specs.Tables.{Tables, lengths}
 use Rattle.tables.specs.Work.{ListRule, NoneVisited}
 
 -- The two ends of a history's steps, in order of acceptance.
@@ -67,3 +67,14 @@ pub record Fresh (g : Graph) (t : Tables) : Type 0 where
   pub visited : AllBelow (g .n) 0 (t .visited)
   pub inNext : AllBelow (g .limit) 0 (t .inNext)
   pub outNext : AllBelow (g .limit) 0 (t .outNext)
+
+-- What a table check between two calls leaves: all tables as they were, "but for what a table check in between wrote into work tables", "which after a yes still fit". No check at all leaves them so too.
+pub record Checked (g : Graph) (t t′ : Tables) : Type 0 where
+  pub status : t′ .status ≡ t .status
+  pub marks : t′ .marks ≡ t .marks
+  pub from : t′ .from ≡ t .from
+  pub to : t′ .to ≡ t .to
+  pub successor : t′ .successor ≡ t .successor
+  pub news : t′ .news ≡ t .news
+  pub sizes : lengths t′ ≡ lengths t
+  pub fits : (h : History) → Legal h → Consistent h g t → Consistent h g t′

@@ -1,5 +1,6 @@
--- What the engine is handed, and what "the tables fit" means.
+-- What the engine is handed, and what "the tables fit" means. This is what a reader believes. Inner contracts, which no promise cites, are in it `Long` (Tables) and `number`, `lentNumber` and `sentNumber` (Refused): the code's form of what the promises say by `checkNeeds` and `refusalOn`.
 pub mod Tables
+pub mod Keeping
 pub mod Marks
 pub mod Work
 pub mod Refused

@@ -1,14 +1,15 @@
 -- Which number a call gets on the tables that it is lent: gid's refusals, with what they turn on read from the tables.
 -- Assumes nothing.
-use mathlib.Core.Bool.{Bool, true, cond}
+use mathlib.Core.Bool.{Bool, true}
 use mathlib.Core.List.{List, [], _∷_, _++_}
 use mathlib.Core.Option.{Option, some, none}
-use Prim.Native.Nat.{ℕ, _+_, _*_}
+use Prim.Native.Nat.{ℕ}
 use lib.Dec.{leb, eqb}
 use lib.ListN.{length, getD}
 use Rattle.gid.specs.declared.Update.{Update}
 use Rattle.gid.specs.Statuses.{statusDead}
 use Rattle.gid.specs.Refusals.{Given, Rule, first, lent, sent, refusal}
+use Rattle.gid.specs.Outcomes.{Outcome, refused, accepted, byNumber}
 use Rattle.tables.specs.declared.Graph.{Graph}
 use Rattle.tables.specs.declared.Status.{Status}
 use Rattle.tables.specs.declared.Status.the-variants.{Byte, Refused}
@@ -47,9 +48,10 @@ sentNumber g marks status x = number (first (sent (given g true marks status) x)
 abbrev pub statusRules : Graph → List ℕ → ℕ → List Rule
 statusRules g status s = lent (given g (leb (g .n) (length status)) [] status) ++ (record { applies = leb (g .n) s; number = 5 } ∷ [])
 
-abbrev pub orByte : Option ℕ → ℕ → Status
-orByte none b = Byte b
-orByte (some k) b = Refused k
+-- Document 01's number and value for each answer of the status question.
+abbrev pub statusOutcome : Status → Outcome ℕ
+statusOutcome (Byte b) = accepted b
+statusOutcome (Refused k) = refused k
 
-unfoldable pub statusAnswer : Graph → List ℕ → ℕ → Status
-statusAnswer g status s = orByte (first (statusRules g status s)) (getD status s 0)
+unfoldable pub statusAnswer : Graph → List ℕ → ℕ → Outcome ℕ
+statusAnswer g status s = byNumber (first (statusRules g status s)) (getD status s 0)

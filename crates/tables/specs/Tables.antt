@@ -2,9 +2,9 @@
 -- Assumes nothing.
 use mathlib.Core.Bool.{Bool, true, _&&_}
 use mathlib.Core.List.{List, [], _∷_}
-use Prim.Native.Nat.{ℕ, _+_, _*_, _≤_}
+use Prim.Native.Nat.{ℕ, _+_, _≤_}
 use lib.Dec.{leb}
-use lib.ListN.{length, replicate}
+use lib.ListN.{length}
 use Rattle.tables.specs.declared.lengths.Lengths.{Lengths}
 
 pub record Tables : Type 0 where
@@ -28,6 +28,24 @@ pub record Tables : Type 0 where
   -- and for each listed step the next one with the same end.
   pub inNext : List ℕ
   pub outNext : List ℕ
+
+-- The lent lists, in the order in which the calls take them.
+abbrev pub tablesOf : (status marks from to successor news inHead outHead queue visited inNext outNext : List ℕ) → Tables
+tablesOf status marks from to successor news inHead outHead queue visited inNext outNext =
+    record {
+      status = status;
+      marks = marks;
+      from = from;
+      to = to;
+      successor = successor;
+      news = news;
+      inHead = inHead;
+      outHead = outHead;
+      queue = queue;
+      visited = visited;
+      inNext = inNext;
+      outNext = outNext;
+    }
 
 -- A table's length, and how many of its entries are needed.
 pub record Needed : Type 0 where
@@ -65,16 +83,33 @@ workNeeds n limit l =
     record { have = l .«in_next»; need = limit } ∷
     record { have = l .«out_next»; need = limit } ∷ []
 
--- All the tables that an update is lent.
-abbrev pub needs : ℕ → ℕ → Lengths → List Needed
-needs n limit l =
+-- The tables that a table check is lent: all but the news list.
+abbrev pub checkNeeds : ℕ → ℕ → Lengths → List Needed
+checkNeeds n limit l =
     record { have = l .status; need = n } ∷
     record { have = l .marks; need = n } ∷
     record { have = l .from; need = limit } ∷
     record { have = l .to; need = limit } ∷
-    record { have = l .successor; need = n } ∷
-    record { have = l .news; need = n } ∷ workNeeds n limit l
+    record { have = l .successor; need = n } ∷ workNeeds n limit l
+
+-- An update is lent the news list besides.
+abbrev pub needs : ℕ → ℕ → Lengths → List Needed
+needs n limit l = record { have = l .news; need = n } ∷ checkNeeds n limit l
 
 abbrev pub total : List Needed → ℕ
 total [] = 0
 total (x ∷ l) = x .need + total l
+
+-- Each table but the news list is long enough: what `checkNeeds` says, table by table (proofs/Sizes.antt).
+pub record Long (n limit : ℕ) (t : Tables) : Type 0 where
+  pub status : n ≤ length (t .status)
+  pub marks : n ≤ length (t .marks)
+  pub from : limit ≤ length (t .from)
+  pub to : limit ≤ length (t .to)
+  pub successor : n ≤ length (t .successor)
+  pub inHead : n ≤ length (t .inHead)
+  pub outHead : n ≤ length (t .outHead)
+  pub queue : n ≤ length (t .queue)
+  pub visited : n ≤ length (t .visited)
+  pub inNext : limit ≤ length (t .inNext)
+  pub outNext : limit ≤ length (t .outNext)

@@ -1,7 +1,7 @@
 // The lengths of the tables that an update is lent, and whether they are enough.
 ghost use mathlib.Core.Path.{_≡_};
 ghost use mathlib.Core.Bool.{_&&_};
-ghost use Rattle.tables.specs.Tables.{enough, needs};
+ghost use Rattle.tables.specs.Tables.{enough, needs, checkNeeds};
 
 pub struct Lengths {
     // An entry for each state.
@@ -25,13 +25,19 @@ impl Lengths {
     pub fn enough(self, n: usize, limit: usize) -> bool
         ensures { λ r. ⌜ r ≡ enough (needs n limit self) ⌝ }
     {
+        both(n <= self.news, self.enough_to_check(n, limit))
+    }
+
+    // The same but for the news list, which a table check is not lent.
+    pub fn enough_to_check(self, n: usize, limit: usize) -> bool
+        ensures { λ r. ⌜ r ≡ enough (checkNeeds n limit self) ⌝ }
+    {
         let rest = both(limit <= self.out_next, true);
         let rest = both(limit <= self.in_next, rest);
         let rest = both(n <= self.visited, rest);
         let rest = both(n <= self.queue, rest);
         let rest = both(n <= self.out_head, rest);
         let rest = both(n <= self.in_head, rest);
-        let rest = both(n <= self.news, rest);
         let rest = both(n <= self.successor, rest);
         let rest = both(limit <= self.to, rest);
         let rest = both(limit <= self.from, rest);

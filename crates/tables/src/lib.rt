@@ -1,17 +1,23 @@
 // What the engine is handed, and what it refuses: the state value, the caller's tables, the numbers 1 to 9, the mark bits, and the status question.
 ghost use mathlib.Core.Path.{_≡_};
-ghost use mathlib.Core.Bool.{Bool, true, false};
-ghost use Prim.Native.Nat.{ℕ, _+_, _*_, _-_, _≤_, _<_};
-ghost use lib.ListN.{length, getD, set};
-ghost use Rattle.tables.specs.Refused.{lentNumber, sentNumber, statusAnswer};
+ghost use Prim.Native.Nat.{_+_, _≤_, _<_};
+ghost use lib.ListN.{length};
+ghost use Rattle.tables.specs.Refused.{lentNumber, sentNumber, statusOutcome, statusAnswer};
 ghost use Rattle.tables.specs.Listing.{graphAfter};
 
+mod entries;
 mod lengths;
 mod marks;
 
+pub use entries::fill;
+pub use entries::fill_bytes;
+pub use entries::status_of;
+pub use entries::wide;
 use gid::Update;
 pub use lengths::Lengths;
 pub use marks::has_closed;
+pub use marks::has_named;
+pub use marks::has_terminal;
 pub use marks::with_closed;
 pub use marks::with_named;
 pub use marks::with_terminal;
@@ -176,7 +182,7 @@ impl Graph {
 
     // The status question: the tests 1 to 5, then the state's byte.
     pub fn status(self, status: &[u8], state: usize) -> Status
-        ensures { λ r. ⌜ r ≡ statusAnswer self (now (status .entry)) state ⌝ }
+        ensures { λ r. ⌜ statusOutcome r ≡ statusAnswer self (now (status .entry)) state ⌝ }
     {
         let refused = self.lent(self.n <= status.len());
         if refused != 0 {
@@ -187,11 +193,4 @@ impl Graph {
         }
         Status::Byte(status[state])
     }
-}
-
-// An entry of a table as an index.
-pub fn wide(x: u16) -> usize
-    ensures { λ r. ⌜ r ≡ x ⌝ }
-{
-    x as usize
 }

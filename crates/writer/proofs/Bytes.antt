@@ -2,29 +2,28 @@
 -- Assumes nothing.
 use mathlib.Core.Path.{_≡_, refl, sym, _∙_, ap}
 use mathlib.Core.Bool.{Bool, true, false, cond}
-use mathlib.Core.List.{List, [], _∷_, _++_, map, map-append, append-assoc, append-nil}
-use Prim.Native.Nat.{ℕ, zero, suc, _+_, _*_, _/_, _≤_, _<_}
+use mathlib.Core.List.{List, [], _∷_, _++_, append-assoc, append-nil}
+use Prim.Native.Nat.{ℕ, zero, suc, _+_, _/_, _≤_, _<_}
 use native.Mathlib.Omega.{arith}
 use native.Mathlib.Numerals.{add-one}
 use native.Mathlib.Decide.{ℕ-discrete}
-use lib.ListN.{length, getD, length-append}
+use lib.ListN.{length, length-append}
 use Rattle.gid.specs.declared.Update.{Update}
 use Rattle.gid.specs.declared.Update.the-variants.{Step, Terminal, Close}
-use Rattle.gid.specs.News.{below}
 use Rattle.record.specs.Text.{decimal, head, text, maxValue, Within}
 use Rattle.record.proofs.Decimals.{decimal-digit}
 use Rattle.record.proofs.Writing.{room-more, head-length}
 use Rattle.record.proofs.Reading.{text-length}
 use Rattle.writer.specs.declared.marking.Mark.{Mark}
 use Rattle.writer.specs.declared.marking.Mark.the-variants.{Terminal as ForTerminal, Close as ForClose}
-use Rattle.writer.specs.Order.{hasMark, marking, markedLines, stepLines, writtenUpdates, lineBytes, bytesOf, namesBytes, recordOf}
+use Rattle.writer.specs.Order.{hasMark, marking, inOrder, markedLines, stepLines, writtenUpdates, lineBytes, bytesOf, namesBytes, recordOf}
 use Rattle.writer.specs.Sizing.{markLine}
 
 pub one-digit : (v : ℕ) → v < 10 → length (decimal v) ≡ 1
 one-digit v h = rw (decimal-digit v h)
 
 -- one digit more for ten times the number
-pub more-digits : (v k : ℕ) → 10 ≤ v → length (decimal (v / 10)) ≡ k → length (decimal v) ≡ k + 1
+more-digits : (v k : ℕ) → 10 ≤ v → length (decimal (v / 10)) ≡ k → length (decimal v) ≡ k + 1
 more-digits v k h e = room-more v h ∙ ap (λ (n : ℕ). n + 1) e
 
 pub two-digits : (v : ℕ) → 10 ≤ v → v < 100 → length (decimal v) ≡ 2
@@ -56,7 +55,7 @@ pub marking-within : (k : Mark) (s : ℕ) → s ≤ maxValue → Within (marking
 marking-within ForTerminal s h = h
 marking-within ForClose s h = h
 
-pub bytes-append : (a b : List Update) → bytesOf (a ++ b) ≡ bytesOf a ++ bytesOf b
+bytes-append : (a b : List Update) → bytesOf (a ++ b) ≡ bytesOf a ++ bytesOf b
 unfolding bytesOf
 bytes-append [] b = refl
 bytes-append (x ∷ a) b = ap (λ (l : List ℕ). lineBytes x ++ l) (bytes-append a b) ∙ sym (append-assoc (lineBytes x) (bytesOf a) (bytesOf b))
@@ -64,72 +63,6 @@ bytes-append (x ∷ a) b = ap (λ (l : List ℕ). lineBytes x ++ l) (bytes-appen
 pub bytes-one : (x : Update) → bytesOf (x ∷ []) ≡ lineBytes x
 unfolding bytesOf
 bytes-one x = append-nil (lineBytes x)
-
-pub size-append : (a b : List Update) → length (bytesOf (a ++ b)) ≡ length (bytesOf a) + length (bytesOf b)
-size-append a b = ap length (bytes-append a b) ∙ length-append (bytesOf a) (bytesOf b)
-
--- no state, and no step
-pub marked-none : (k : Mark) (marks : List ℕ) → bytesOf (markedLines k 0 marks) ≡ []
-unfolding markedLines below bytesOf
-marked-none k marks = refl
-
-pub steps-none : (from to : List ℕ) → bytesOf (stepLines 0 from to) ≡ []
-unfolding stepLines bytesOf
-steps-none from to = refl
-
--- one state more, and one step more
-pub marked-more : (k : Mark) (n : ℕ) (marks : List ℕ) → markedLines k (n + 1) marks ≡ markedLines k n marks ++ markLine k (getD marks n 0) n
-unfolding markedLines below
-marked-more k n marks =
-    rw (add-one n)
-    (map-append (marking k) (below n (λ s. hasMark k (getD marks s 0))) (cond (hasMark k (getD marks n 0)) (n ∷ []) []) ∙
-    ap (λ (l : List Update). map (marking k) (below n (λ s. hasMark k (getD marks s 0))) ++ l) (by (hasMark k (getD marks n 0))))
-  where
-    by : (b : Bool) → map (marking k) (cond b (n ∷ []) []) ≡ cond b (marking k n ∷ []) []
-    by true = refl
-    by false = refl
-
-pub steps-more : (p : ℕ) (from to : List ℕ) → stepLines (p + 1) from to ≡ stepLines p from to ++ (Step (getD from p 0) (getD to p 0) ∷ [])
-unfolding stepLines
-steps-more p from to = rw (add-one p) refl
-
-pub marked-bytes : (k : Mark) (n : ℕ) (marks : List ℕ) → bytesOf (markedLines k (n + 1) marks) ≡ bytesOf (markedLines k n marks) ++ bytesOf (markLine k (getD marks n 0) n)
-marked-bytes k n marks = ap bytesOf (marked-more k n marks) ∙ bytes-append (markedLines k n marks) (markLine k (getD marks n 0) n)
-
-pub steps-bytes : (p : ℕ) (from to : List ℕ) → bytesOf (stepLines (p + 1) from to) ≡ bytesOf (stepLines p from to) ++ lineBytes (Step (getD from p 0) (getD to p 0))
-steps-bytes p from to =
-    ap bytesOf (steps-more p from to) ∙
-    bytes-append (stepLines p from to) (Step (getD from p 0) (getD to p 0) ∷ []) ∙
-    ap (λ (l : List ℕ). bytesOf (stepLines p from to) ++ l) (bytes-one (Step (getD from p 0) (getD to p 0)))
-
-pub marked-size : (k : Mark) (n : ℕ) (marks : List ℕ) → length (bytesOf (markedLines k (n + 1) marks)) ≡ length (bytesOf (markedLines k n marks)) + length (bytesOf (markLine k (getD marks n 0) n))
-marked-size k n marks = ap length (marked-bytes k n marks) ∙ length-append (bytesOf (markedLines k n marks)) (bytesOf (markLine k (getD marks n 0) n))
-
-pub steps-size : (p : ℕ) (from to : List ℕ) → length (bytesOf (stepLines (p + 1) from to)) ≡ length (bytesOf (stepLines p from to)) + length (lineBytes (Step (getD from p 0) (getD to p 0)))
-steps-size p from to = ap length (steps-bytes p from to) ∙ length-append (bytesOf (stepLines p from to)) (lineBytes (Step (getD from p 0) (getD to p 0)))
-
--- the lines of the first states are no longer than all of them
-pub marked-grows : (k : Mark) (i n : ℕ) (marks : List ℕ) → i ≤ n → length (bytesOf (markedLines k i marks)) ≤ length (bytesOf (markedLines k n marks))
-marked-grows k i zero marks h = let e : i ≡ 0 = omega arith in rw e (omega arith)
-marked-grows k i (suc n) marks h = at (ℕ-discrete i (suc n)) (λ q. marked-grows k i n marks q)
-  where
-    at : Dec (i ≡ suc n) → (i ≤ n → length (bytesOf (markedLines k i marks)) ≤ length (bytesOf (markedLines k n marks))) → length (bytesOf (markedLines k i marks)) ≤ length (bytesOf (markedLines k (suc n) marks))
-    at (yes e) ih = rw e (omega arith)
-    at (no d) ih =
-        let q = ih (omega arith) in
-        let m = rw (add-one n) at (marked-size k n marks) in
-        omega arith
-
-pub steps-grow : (i m : ℕ) (from to : List ℕ) → i ≤ m → length (bytesOf (stepLines i from to)) ≤ length (bytesOf (stepLines m from to))
-steps-grow i zero from to h = let e : i ≡ 0 = omega arith in rw e (omega arith)
-steps-grow i (suc m) from to h = at (ℕ-discrete i (suc m)) (λ q. steps-grow i m from to q)
-  where
-    at : Dec (i ≡ suc m) → (i ≤ m → length (bytesOf (stepLines i from to)) ≤ length (bytesOf (stepLines m from to))) → length (bytesOf (stepLines i from to)) ≤ length (bytesOf (stepLines (suc m) from to))
-    at (yes e) ih = rw e (omega arith)
-    at (no d) ih =
-        let q = ih (omega arith) in
-        let z = rw (add-one m) at (steps-size m from to) in
-        omega arith
 
 -- a state's line, where it has the mark, and where it has not
 pub line-size : (k : Mark) (b s : ℕ) → hasMark k b ≡ true → bytesOf (markLine k b s) ≡ lineBytes (marking k s)
@@ -145,6 +78,27 @@ mark-bound k b s h = by (hasMark k b) refl
     by : (t : Bool) → hasMark k b ≡ t → length (bytesOf (markLine k b s)) ≤ 14
     by true e = rw (line-size k b s e) (line-bound (marking k s) (marking-within k s h))
     by false e = rw (no-line k b s e) (omega arith)
+
+-- The lines by rising index: none, one index more, and room for it where there is room for all.
+module _ (test : ℕ → Bool) (update : ℕ → Update) where
+  pub order-none : bytesOf (inOrder 0 test update) ≡ []
+  unfolding inOrder bytesOf
+  order-none = refl
+
+  pub order-more : (i : ℕ) → bytesOf (inOrder (i + 1) test update) ≡ bytesOf (inOrder i test update) ++ bytesOf (cond (test i) (update i ∷ []) [])
+  unfolding inOrder
+  order-more i = rw (add-one i) (bytes-append (inOrder i test update) (cond (test i) (update i ∷ []) []))
+
+  pub order-size : (i : ℕ) → length (bytesOf (inOrder (i + 1) test update)) ≡ length (bytesOf (inOrder i test update)) + length (bytesOf (cond (test i) (update i ∷ []) []))
+  order-size i = ap length (order-more i) ∙ length-append (bytesOf (inOrder i test update)) (bytesOf (cond (test i) (update i ∷ []) []))
+
+  pub order-room : (i n : ℕ) → i < n → length (bytesOf (inOrder i test update)) + length (bytesOf (cond (test i) (update i ∷ []) [])) ≤ length (bytesOf (inOrder n test update))
+  order-room i zero h = absurd (omega arith)
+  order-room i (suc n) h = at (ℕ-discrete i n) (rw (add-one n) at (order-size n)) (order-room i n)
+    where
+      at : Dec (i ≡ n) → length (bytesOf (inOrder (suc n) test update)) ≡ length (bytesOf (inOrder n test update)) + length (bytesOf (cond (test n) (update n ∷ []) [])) → (i < n → length (bytesOf (inOrder i test update)) + length (bytesOf (cond (test i) (update i ∷ []) [])) ≤ length (bytesOf (inOrder n test update))) → length (bytesOf (inOrder i test update)) + length (bytesOf (cond (test i) (update i ∷ []) [])) ≤ length (bytesOf (inOrder (suc n) test update))
+      at (yes e) z ih = rw (e, z) (omega arith)
+      at (no d) z ih = omega (arith, ih (omega arith))
 
 -- The record is its four parts, one behind the other.
 pub parts : (n m : ℕ) (marks from to : List ℕ) → recordOf n m marks from to ≡ ((namesBytes ++ bytesOf (markedLines ForTerminal n marks)) ++ bytesOf (stepLines m from to)) ++ bytesOf (markedLines ForClose n marks)

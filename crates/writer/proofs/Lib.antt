@@ -1,6 +1,5 @@
 -- The laws of the writer's definitions, and the round trip.
 pub mod Bytes
-pub mod Places
 pub mod Deciding
 pub mod Alike
 pub mod Splits

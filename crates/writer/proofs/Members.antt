@@ -1,242 +1,199 @@
--- The written updates of tables that fit are the history's: the same updates, and the same steps in the same order.
+-- The written updates as a history: it is legal, whatever the tables hold, and has their listed steps in their order. Where the tables fit, its updates are those of the history that they fit for.
 -- Assumes nothing.
-use mathlib.Core.Path.{_≡_, refl, sym, _∙_, ap, subst}
+use mathlib.Core.Path.{_≡_, refl, sym, _∙_, ap}
 use mathlib.Core.Logic.{_⊎_, inl, inr, ⊎-elim}
 use mathlib.Core.Bool.{Bool, true, false, cond}
-use mathlib.Core.List.{List, [], _∷_, _++_, map, append-assoc, append-nil, List·Memᴰ, List·Memᴰ·head, List·Memᴰ·tail, List·Memᴰ·cases-cons, List·Memᴰ·not-nil, List·Memᴰ·append-cases, List·Memᴰ·eq-of-singleton, Memᴰ·append-left, Memᴰ·append-right, Memᴰ·map, Memᴰ·of-map}
-use Prim.Native.Nat.{ℕ, zero, suc, _+_, _≤_, _<_, min}
+use mathlib.Core.List.{List, [], _∷_, _++_, append-assoc, append-nil, List·Memᴰ, List·Memᴰ·head, List·Memᴰ·tail, List·Memᴰ·cases-cons, List·Memᴰ·not-nil, List·Memᴰ·append-cases, List·Memᴰ·eq-of-singleton, Memᴰ·append-left, Memᴰ·append-right}
+use Prim.Native.Nat.{ℕ, zero, suc, _+_, _≤_, _<_}
 use native.Mathlib.Omega.{arith}
 use native.Mathlib.Decide.{ℕ-discrete}
 use lib.ListN.{length, getD, take, length-take}
 use lib.Seq.{take-suc}
 use Rattle.gid.specs.declared.Update.{Update}
 use Rattle.gid.specs.declared.Update.the-variants.{Step, Terminal, Close}
-use Rattle.gid.specs.Histories.{History, Has, following}
+use Rattle.gid.specs.Updates.{source}
+use Rattle.gid.specs.Histories.{History, Has, IsClosed, Legal, following}
 use Rattle.gid.specs.Statuses.{isNamed, isTerminal, isClosed}
-use Rattle.gid.specs.News.{below}
-use Rattle.gid.specs.Outcomes.{countSteps}
-use Rattle.gid.proofs.Tests.{decides-terminal, decides-closed}
-use Rattle.gid.proofs.News.{below-mem}
+use Rattle.gid.proofs.Decide.{Decides}
+use Rattle.gid.proofs.Tests.{decides-terminal, decides-closed, step-close, terminal-close}
 use Rattle.tables.specs.declared.Graph.{Graph}
 use Rattle.tables.specs.Tables.{Tables}
-use Rattle.tables.specs.Marks.{hasTerminal, hasClosed}
+use Rattle.tables.specs.Marks.{hasTerminal}
 use Rattle.tables.specs.Fitting.{sources, targets, marksOf, Consistent}
+use Rattle.tables.proofs.Bits.{marks-bits}
 use Rattle.tables.proofs.Listed.{targets-length, step-listed, listed-step}
-use Rattle.engine.proofs.Listing.{closed-bit}
 use Rattle.writer.specs.declared.marking.Mark.{Mark}
 use Rattle.writer.specs.declared.marking.Mark.the-variants.{Terminal as ForTerminal, Close as ForClose}
-use Rattle.writer.specs.Order.{hasMark, marking, markedLines, stepLines, writtenUpdates}
+use Rattle.writer.specs.Order.{hasMark, marking, inOrder, isMarked, markedLines, stepAt, stepLines, writtenUpdates}
 
-pub following-append : (h : History) (a b : List Update) → following h (a ++ b) ≡ following (following h a) b
+-- The history after a list of updates has what it had, and the list's.
+following-append : (h : History) (a b : List Update) → following h (a ++ b) ≡ following (following h a) b
 following-append h [] b = refl
 following-append h (x ∷ a) b = following-append (x ∷ h) a b
 
--- What a history has after a list of updates: what it had, and the list's.
-pub had : (h : History) (l : List Update) (x : Update) → Has h x → Has (following h l) x
-had h [] x m = m
-had h (y ∷ l) x m = had (y ∷ h) l x (List·Memᴰ·tail m)
+had : (h : History) (l : List Update) {x : Update} → Has h x → Has (following h l) x
+had h [] m = m
+had h (y ∷ l) m = had (y ∷ h) l (List·Memᴰ·tail m)
 
-pub follows : (h : History) (l : List Update) (x : Update) → List·Memᴰ x l → Has (following h l) x
-follows h [] x m = absurd (List·Memᴰ·not-nil m)
-follows h (y ∷ l) x m = ⊎-elim (λ e. had (y ∷ h) l x (List·Memᴰ·head e)) (follows (y ∷ h) l x) (List·Memᴰ·cases-cons m)
+pub follows : (h : History) (l : List Update) {x : Update} → List·Memᴰ x l → Has (following h l) x
+follows h [] m = absurd (List·Memᴰ·not-nil m)
+follows h (y ∷ l) m = ⊎-elim (λ e. had (y ∷ h) l (List·Memᴰ·head e)) (follows (y ∷ h) l) (List·Memᴰ·cases-cons m)
 
-pub followed : (h : History) (l : List Update) (x : Update) → Has (following h l) x → Has h x ⊎ List·Memᴰ x l
-followed h [] x m = inl m
-followed h (y ∷ l) x m = ⊎-elim newest (λ q. inr (List·Memᴰ·tail q)) (followed (y ∷ h) l x m)
+pub followed : (h : History) (l : List Update) {x : Update} → Has (following h l) x → Has h x ⊎ List·Memᴰ x l
+followed h [] m = inl m
+followed h (y ∷ l) {x} m = ⊎-elim newest (λ q. inr (List·Memᴰ·tail q)) (followed (y ∷ h) l m)
   where
     newest : Has (y ∷ h) x → Has h x ⊎ List·Memᴰ x (y ∷ l)
     newest q = ⊎-elim (λ e. inr (List·Memᴰ·head e)) inl (List·Memᴰ·cases-cons q)
 
--- The number of steps after a list of updates.
-pub count-append : (a b : List Update) → countSteps (a ++ b) ≡ countSteps a + countSteps b
-count-append [] b = omega arith
-count-append (Step u v ∷ a) b = omega (arith, count-append a b)
-count-append (Terminal u ∷ a) b = count-append a b
-count-append (Close u ∷ a) b = count-append a b
+module _ (test : ℕ → Bool) (update : ℕ → Update) where
+  order-in : (n i : ℕ) → i < n → test i ≡ true → List·Memᴰ (update i) (inOrder n test update)
+  unfolding inOrder
+  order-in zero i p e = absurd (omega arith)
+  order-in (suc n) i p e = at (ℕ-discrete i n) (λ q. order-in n i q e)
+    where
+      at : Dec (i ≡ n) → (i < n → List·Memᴰ (update i) (inOrder n test update)) → List·Memᴰ (update i) (inOrder n test update ++ cond (test n) (update n ∷ []) [])
+      at (yes q) ih = Memᴰ·append-right (inOrder n test update) (rw (← q, e) (List·Memᴰ·head refl))
+      at (no d) ih = Memᴰ·append-left (cond (test n) (update n ∷ []) []) (ih (omega arith))
 
-pub count-following : (h : History) (l : List Update) → countSteps (following h l) ≡ countSteps h + countSteps l
-count-following h [] = omega arith
-count-following h (Step u v ∷ l) = omega (arith, count-following (Step u v ∷ h) l)
-count-following h (Terminal u ∷ l) = count-following (Terminal u ∷ h) l
-count-following h (Close u ∷ l) = count-following (Close u ∷ h) l
+  order-of : (n : ℕ) {x : Update} → List·Memᴰ x (inOrder n test update) → (i : ℕ) × (i < n) × (test i ≡ true) × (x ≡ update i)
+  unfolding inOrder
+  order-of zero m = absurd (List·Memᴰ·not-nil m)
+  order-of (suc n) {x} m = ⊎-elim (λ q. let o = order-of n q in (o .0, omega (arith, o .1), o .2, o .3)) (last (test n) refl) (List·Memᴰ·append-cases (inOrder n test update) m)
+    where
+      last : (b : Bool) → test n ≡ b → List·Memᴰ x (cond b (update n ∷ []) []) → (i : ℕ) × (i < suc n) × (test i ≡ true) × (x ≡ update i)
+      last true e q = (n, omega arith, e, List·Memᴰ·eq-of-singleton q)
+      last false e q = absurd (List·Memᴰ·not-nil q)
 
-count-marks : (k : Mark) (l : List ℕ) → countSteps (map (marking k) l) ≡ 0
-count-marks ForTerminal [] = refl
-count-marks ForTerminal (s ∷ l) = count-marks ForTerminal l
-count-marks ForClose [] = refl
-count-marks ForClose (s ∷ l) = count-marks ForClose l
+  -- closed before, or by one of them
+  order-closed : {h : History} (n : ℕ) {s : ℕ} → IsClosed (following h (inOrder n test update)) s → IsClosed h s ⊎ ((i : ℕ) × (i < n) × (Close s ≡ update i))
+  order-closed {h} n m = ⊎-elim inl (λ q. let o = order-of n q in inr (o .0, o .1, o .3)) (followed h (inOrder n test update) m)
 
-pub count-marked : (k : Mark) (n : ℕ) (marks : List ℕ) → countSteps (markedLines k n marks) ≡ 0
-unfolding markedLines
-count-marked k n marks = count-marks k (below n (λ s. hasMark k (getD marks s 0)))
+  -- legal where none is sent from a state closed before, or by one of those before it
+  order-legal : {h : History} (n : ℕ) → Legal h → ((i : ℕ) → IsClosed h (source (update i)) → ⊥) → ((i j : ℕ) → j < i → Close (source (update i)) ≡ update j → ⊥) → Legal (following h (inOrder n test update))
+  unfolding inOrder
+  order-legal zero l p q = l
+  order-legal {h} (suc n) l p q = rw (following-append h (inOrder n test update) (cond (test n) (update n ∷ []) [])) (at (test n) (order-legal n l p q))
+    where
+      at : (b : Bool) → Legal (following h (inOrder n test update)) → Legal (following (following h (inOrder n test update)) (cond b (update n ∷ []) []))
+      at true i = (i, λ m. ⊎-elim (p n) (λ o. q n (o .0) (o .1) (o .2)) (order-closed n m))
+      at false i = i
 
-pub count-steps : (m : ℕ) (from to : List ℕ) → countSteps (stepLines m from to) ≡ m
-unfolding stepLines
-count-steps zero from to = refl
-count-steps (suc p) from to =
-    omega (arith, count-append (stepLines p from to) (Step (getD from p 0) (getD to p 0) ∷ []), count-steps p from to)
+-- One end of a history's steps, in order of acceptance.
+record Ends (ends : History → List ℕ) (end : ℕ → ℕ → ℕ) : Type 0 where
+  none : ends [] ≡ []
+  step : (h : History) (u v : ℕ) → ends (Step u v ∷ h) ≡ ends h ++ (end u v ∷ [])
+  terminal : (h : History) (s : ℕ) → ends (Terminal s ∷ h) ≡ ends h
+  close : (h : History) (s : ℕ) → ends (Close s ∷ h) ≡ ends h
 
--- The ends of the steps after a list of updates.
-no-sources : sources [] ≡ []
+sources-ends : Ends sources (λ u v. u)
 unfolding sources
-no-sources = refl
+sources-ends = record { none = refl; step = λ h u v. refl; terminal = λ h s. refl; close = λ h s. refl }
 
-no-targets : targets [] ≡ []
+targets-ends : Ends targets (λ u v. v)
 unfolding targets
-no-targets = refl
+targets-ends = record { none = refl; step = λ h u v. refl; terminal = λ h s. refl; close = λ h s. refl }
 
-sources-marks : (k : Mark) (h : History) (l : List ℕ) → sources (following h (map (marking k) l)) ≡ sources h
-unfolding sources
-sources-marks k h [] = refl
-sources-marks ForTerminal h (s ∷ l) = sources-marks ForTerminal (Terminal s ∷ h) l
-sources-marks ForClose h (s ∷ l) = sources-marks ForClose (Close s ∷ h) l
+module _ {ends : History → List ℕ} {end : ℕ → ℕ → ℕ} (e : Ends ends end) (marks from to : List ℕ) where
+  ends-mark : (k : Mark) (h : History) (s : ℕ) → ends (marking k s ∷ h) ≡ ends h
+  ends-mark ForTerminal = e .terminal
+  ends-mark ForClose = e .close
 
-targets-marks : (k : Mark) (h : History) (l : List ℕ) → targets (following h (map (marking k) l)) ≡ targets h
-unfolding targets
-targets-marks k h [] = refl
-targets-marks ForTerminal h (s ∷ l) = targets-marks ForTerminal (Terminal s ∷ h) l
-targets-marks ForClose h (s ∷ l) = targets-marks ForClose (Close s ∷ h) l
+  ends-marks : (k : Mark) (n : ℕ) (h : History) → ends (following h (markedLines k n marks)) ≡ ends h
+  unfolding inOrder
+  ends-marks k zero h = refl
+  ends-marks k (suc n) h = rw (following-append h (markedLines k n marks) (cond (isMarked k marks n) (marking k n ∷ []) [])) (at (isMarked k marks n) ∙ ends-marks k n h)
+    where
+      at : (b : Bool) → ends (following (following h (markedLines k n marks)) (cond b (marking k n ∷ []) [])) ≡ ends (following h (markedLines k n marks))
+      at true = ends-mark k (following h (markedLines k n marks)) n
+      at false = refl
 
-sources-steps : (m : ℕ) (from to : List ℕ) (h : History) → m ≤ length from → sources (following h (stepLines m from to)) ≡ sources h ++ take m from
-unfolding stepLines sources
-sources-steps zero from to h p = sym (append-nil (sources h))
-sources-steps (suc m) from to h p =
-    ap sources (following-append h (stepLines m from to) (Step (getD from m 0) (getD to m 0) ∷ [])) ∙
-    ap (λ (l : List ℕ). l ++ (getD from m 0 ∷ [])) (sources-steps m from to h (omega arith)) ∙
-    append-assoc (sources h) (take m from) (getD from m 0 ∷ []) ∙
-    ap (λ (l : List ℕ). sources h ++ l) (sym (take-suc from m 0 (omega arith)))
-
-targets-steps : (m : ℕ) (from to : List ℕ) (h : History) → m ≤ length to → targets (following h (stepLines m from to)) ≡ targets h ++ take m to
-unfolding stepLines targets
-targets-steps zero from to h p = sym (append-nil (targets h))
-targets-steps (suc m) from to h p =
-    ap targets (following-append h (stepLines m from to) (Step (getD from m 0) (getD to m 0) ∷ [])) ∙
-    ap (λ (l : List ℕ). l ++ (getD to m 0 ∷ [])) (targets-steps m from to h (omega arith)) ∙
-    append-assoc (targets h) (take m to) (getD to m 0 ∷ []) ∙
-    ap (λ (l : List ℕ). targets h ++ l) (sym (take-suc to m 0 (omega arith)))
+  ends-steps : (l : List ℕ) → ((p : ℕ) → end (getD from p 0) (getD to p 0) ≡ getD l p 0) → (m : ℕ) → m ≤ length l → (h : History) → ends (following h (stepLines m from to)) ≡ ends h ++ take m l
+  unfolding inOrder
+  ends-steps l q zero p h = sym (append-nil (ends h))
+  ends-steps l q (suc m) p h =
+      rw (following-append h (stepLines m from to) (stepAt from to m ∷ []), e .step (following h (stepLines m from to)) (getD from m 0) (getD to m 0), ends-steps l q m (omega arith) h, q m, take-suc l m 0 p) (append-assoc (ends h) (take m l) (getD l m 0 ∷ []))
 
 module _ (n m : ℕ) (marks from to : List ℕ) where
+  abbrev terminals : History
+  terminals = following [] (markedLines ForTerminal n marks)
+
+  abbrev listed : History
+  listed = following terminals (stepLines m from to)
+
+  parts-follow : following [] (writtenUpdates n m marks from to) ≡ following listed (markedLines ForClose n marks)
+  unfolding writtenUpdates
+  parts-follow =
+      following-append [] (markedLines ForTerminal n marks) (stepLines m from to ++ markedLines ForClose n marks) ∙
+      following-append terminals (stepLines m from to) (markedLines ForClose n marks)
+
   -- The steps of the written updates are the listed ones, in list order.
-  pub written-sources : m ≤ length from → sources (following [] (writtenUpdates n m marks from to)) ≡ take m from
-  unfolding writtenUpdates markedLines
-  written-sources p =
-      let a = markedLines ForTerminal n marks in
-      let b = stepLines m from to in
-      let c = markedLines ForClose n marks in
-      ap sources (following-append [] a (b ++ c) ∙ following-append (following [] a) b c) ∙
-      sources-marks ForClose (following (following [] a) b) (below n (λ s. hasMark ForClose (getD marks s 0))) ∙
-      sources-steps m from to (following [] a) p ∙
-      ap (λ (l : List ℕ). l ++ take m from) (sources-marks ForTerminal [] (below n (λ s. hasMark ForTerminal (getD marks s 0))) ∙ no-sources)
+  written-ends : {ends : History → List ℕ} {end : ℕ → ℕ → ℕ} → Ends ends end → (l : List ℕ) → ((p : ℕ) → end (getD from p 0) (getD to p 0) ≡ getD l p 0) → m ≤ length l → ends (following [] (writtenUpdates n m marks from to)) ≡ take m l
+  written-ends e l q p =
+      rw (parts-follow, ends-marks e marks from to ForClose n listed, ends-steps e marks from to l q m p terminals, ends-marks e marks from to ForTerminal n [], e .none)
 
-  pub written-targets : m ≤ length to → targets (following [] (writtenUpdates n m marks from to)) ≡ take m to
-  unfolding writtenUpdates markedLines
-  written-targets p =
-      let a = markedLines ForTerminal n marks in
-      let b = stepLines m from to in
-      let c = markedLines ForClose n marks in
-      ap targets (following-append [] a (b ++ c) ∙ following-append (following [] a) b c) ∙
-      targets-marks ForClose (following (following [] a) b) (below n (λ s. hasMark ForClose (getD marks s 0))) ∙
-      targets-steps m from to (following [] a) p ∙
-      ap (λ (l : List ℕ). l ++ take m to) (targets-marks ForTerminal [] (below n (λ s. hasMark ForTerminal (getD marks s 0))) ∙ no-targets)
+  -- Terminal marks and steps come before every close, and a state is closed once.
+  pub written-legal : Legal (following [] (writtenUpdates n m marks from to))
+  written-legal =
+      rw parts-follow
+      (order-legal (isMarked ForClose marks) Close n
+      (order-legal (λ p. true) (stepAt from to) m
+      (order-legal (isMarked ForTerminal marks) Terminal n tt (λ i q. List·Memᴰ·not-nil q) (λ i j p q. terminal-close j i (sym q)))
+      (λ i q. unmarked q) (λ i j p q. step-close (getD from j 0) (getD to j 0) (getD from i 0) (sym q)))
+      (λ i q. ⊎-elim unmarked (λ o. step-close (getD from (o .0) 0) (getD to (o .0) 0) i (sym (o .2))) (order-closed (λ p. true) (stepAt from to) m q))
+      (λ i j p q. let z : i ≡ j = cc in omega arith))
+    where
+      unmarked : {s : ℕ} → IsClosed terminals s → ⊥
+      unmarked {s} q = ⊎-elim List·Memᴰ·not-nil (λ o. terminal-close (o .0) s (sym (o .2))) (order-closed (isMarked ForTerminal marks) Terminal n q)
 
--- a state's line is written exactly where its byte has the mark
-pub marked-in : (k : Mark) (n : ℕ) (marks : List ℕ) (s : ℕ) → s < n → hasMark k (getD marks s 0) ≡ true → List·Memᴰ (marking k s) (markedLines k n marks)
-unfolding markedLines
-marked-in k n marks s p e = Memᴰ·map (marking k) (below-mem n (λ s. hasMark k (getD marks s 0)) s .1 (p, e))
+decides-mark : (k : Mark) (h : History) (s : ℕ) → Decides (hasMark k (marksOf h s)) (Has h (marking k s))
+decides-mark ForTerminal h s = rw (marks-bits h s .1) (decides-terminal h s)
+decides-mark ForClose h s = rw (marks-bits h s .2) (decides-closed h s)
 
-pub marked-of : (k : Mark) (n : ℕ) (marks : List ℕ) (x : Update) → List·Memᴰ x (markedLines k n marks) → (s : ℕ) × (s < n) × (hasMark k (getD marks s 0) ≡ true) × (marking k s ≡ x)
-unfolding markedLines
-marked-of k n marks x m =
-    let q = Memᴰ·of-map (marking k) (below n (λ s. hasMark k (getD marks s 0))) m in
-    let b = below-mem n (λ s. hasMark k (getD marks s 0)) (q .0) .0 (q .1) in
-    (q .0, b .0, b .1, q .2)
-
-pub steps-in : (m : ℕ) (from to : List ℕ) (p : ℕ) → p < m → List·Memᴰ (Step (getD from p 0) (getD to p 0)) (stepLines m from to)
-unfolding stepLines
-steps-in zero from to p h = absurd (omega arith)
-steps-in (suc m) from to p h = at (ℕ-discrete p m) (λ q. steps-in m from to p q)
-  where
-    at : Dec (p ≡ m) → (p < m → List·Memᴰ (Step (getD from p 0) (getD to p 0)) (stepLines m from to)) → List·Memᴰ (Step (getD from p 0) (getD to p 0)) (stepLines m from to ++ (Step (getD from m 0) (getD to m 0) ∷ []))
-    at (yes e) i = Memᴰ·append-right (stepLines m from to) (List·Memᴰ·head (rw e))
-    at (no d) i = Memᴰ·append-left (Step (getD from m 0) (getD to m 0) ∷ []) (i (omega arith))
-
-pub steps-of : (m : ℕ) (from to : List ℕ) (x : Update) → List·Memᴰ x (stepLines m from to) → (p : ℕ) × (p < m) × (x ≡ Step (getD from p 0) (getD to p 0))
-unfolding stepLines
-steps-of zero from to x h = absurd (List·Memᴰ·not-nil h)
-steps-of (suc m) from to x h = ⊎-elim (λ q. older (steps-of m from to x q)) (λ q. (m, omega arith, List·Memᴰ·eq-of-singleton q)) (List·Memᴰ·append-cases (stepLines m from to) h)
-  where
-    older : (p : ℕ) × (p < m) × (x ≡ Step (getD from p 0) (getD to p 0)) → (p : ℕ) × (p < suc m) × (x ≡ Step (getD from p 0) (getD to p 0))
-    older q = let k = q .1 in (q .0, omega arith, q .2)
-
--- the terminal mark of tables that fit is the history's
-terminal-bit : (h : History) (s : ℕ) → hasTerminal (marksOf h s) ≡ isTerminal h s
-unfolding marksOf
-terminal-bit h s = at (isNamed h s) (isTerminal h s) (isClosed h s)
-  where
-    at : (a b c : Bool) → hasTerminal (cond a 1 0 + cond b 2 0 + cond c 4 0) ≡ b
-    at true true true = refl
-    at true true false = refl
-    at true false true = refl
-    at true false false = refl
-    at false true true = refl
-    at false true false = refl
-    at false false true = refl
-    at false false false = refl
+-- The updates of the record of some tables.
+abbrev pub writtenOf : Graph → Tables → List Update
+writtenOf g t = writtenUpdates (g .n) (g .steps) (t .marks) (t .from) (t .to)
 
 module _ {h : History} {g : Graph} {t : Tables} (c : Consistent h g t) where
-  mark-to : (k : Mark) (s : ℕ) → s < g .n → hasMark k (getD (t .marks) s 0) ≡ true → Has h (marking k s)
-  mark-to ForTerminal s r e = decides-terminal h s .sound (sym (terminal-bit h s) ∙ ap hasTerminal (sym (c .marks s r)) ∙ e)
-  mark-to ForClose s r e = decides-closed h s .sound (sym (closed-bit h s) ∙ ap hasClosed (sym (c .marks s r)) ∙ e)
+  marked-had : (k : Mark) {x : Update} → List·Memᴰ x (markedLines k (g .n) (t .marks)) → Has h x
+  marked-had k m =
+      let o = order-of (isMarked k (t .marks)) (marking k) (g .n) m in
+      rw (o .3) (decides-mark k h (o .0) .sound (ap (hasMark k) (sym (c .marks (o .0) (o .1))) ∙ o .2))
 
-  mark-of : (k : Mark) (s : ℕ) → Has h (marking k s) → (s < g .n) × (hasMark k (getD (t .marks) s 0) ≡ true)
-  mark-of ForTerminal s m =
-      let r = c .inRange s (Terminal s, m, refl) in
-      (r, ap hasTerminal (c .marks s r) ∙ terminal-bit h s ∙ decides-terminal h s .complete m)
-  mark-of ForClose s m =
-      let r = c .inRange s (Close s, m, refl) in
-      (r, ap hasClosed (c .marks s r) ∙ closed-bit h s ∙ decides-closed h s .complete m)
+  had-marked : (k : Mark) (s : ℕ) → s < g .n → Has h (marking k s) → List·Memᴰ (marking k s) (markedLines k (g .n) (t .marks))
+  had-marked k s r m = order-in (isMarked k (t .marks)) (marking k) (g .n) s r (ap (hasMark k) (c .marks s r) ∙ decides-mark k h s .complete m)
 
-  abbrev written : List Update
-  written = writtenUpdates (g .n) (g .steps) (t .marks) (t .from) (t .to)
+  steps-had : {x : Update} → List·Memᴰ x (stepLines (g .steps) (t .from) (t .to)) → Has h x
+  steps-had m =
+      let o = order-of (λ p. true) (stepAt (t .from) (t .to)) (g .steps) m in
+      rw (o .3) (listed-step c (o .0) (o .1))
 
-  marked-had : (k : Mark) (x : Update) → List·Memᴰ x (markedLines k (g .n) (t .marks)) → Has h x
-  marked-had k x m =
-      let q = marked-of k (g .n) (t .marks) x m in
-      subst (λ (y : Update). Has h y) (q .3) (mark-to k (q .0) (q .1) (q .2))
-
-  steps-had : (x : Update) → List·Memᴰ x (stepLines (g .steps) (t .from) (t .to)) → Has h x
-  steps-had x m =
-      let q = steps-of (g .steps) (t .from) (t .to) x m in
-      subst (λ (y : Update). Has h y) (sym (q .2)) (listed-step c (q .0) (q .1))
-
-  -- Each written update is the history's.
-  pub written-had : (x : Update) → List·Memᴰ x (writtenUpdates (g .n) (g .steps) (t .marks) (t .from) (t .to)) → Has h x
+  -- The written updates are the history's, and no others.
+  pub written-had : {x : Update} → List·Memᴰ x (writtenOf g t) → Has h x
   unfolding writtenUpdates
-  written-had x m =
-      ⊎-elim (marked-had ForTerminal x)
-      (λ q. ⊎-elim (steps-had x) (marked-had ForClose x) (List·Memᴰ·append-cases (stepLines (g .steps) (t .from) (t .to)) q))
+  written-had m =
+      ⊎-elim (marked-had ForTerminal)
+      (λ q. ⊎-elim steps-had (marked-had ForClose) (List·Memᴰ·append-cases (stepLines (g .steps) (t .from) (t .to)) q))
       (List·Memᴰ·append-cases (markedLines ForTerminal (g .n) (t .marks)) m)
 
-  -- Each of the history's updates is written.
-  pub had-written : (x : Update) → Has h x → List·Memᴰ x (writtenUpdates (g .n) (g .steps) (t .marks) (t .from) (t .to))
+  pub had-written : (x : Update) → Has h x → List·Memᴰ x (writtenOf g t)
   unfolding writtenUpdates
   had-written (Step u v) m =
       let q = step-listed c u v m in
-      let e : Step (getD (t .from) (q .0) 0) (getD (t .to) (q .0) 0) ≡ Step u v = rw (q .2, q .3) in
+      let e : stepAt (t .from) (t .to) (q .0) ≡ Step u v = rw (q .2, q .3) in
       Memᴰ·append-right (markedLines ForTerminal (g .n) (t .marks))
-      (Memᴰ·append-left (markedLines ForClose (g .n) (t .marks))
-      (subst (λ (y : Update). List·Memᴰ y (stepLines (g .steps) (t .from) (t .to))) e (steps-in (g .steps) (t .from) (t .to) (q .0) (q .1))))
+      (Memᴰ·append-left (markedLines ForClose (g .n) (t .marks)) (rw e at (order-in (λ p. true) (stepAt (t .from) (t .to)) (g .steps) (q .0) (q .1) refl)))
   had-written (Terminal u) m =
-      let q = mark-of ForTerminal u m in
-      Memᴰ·append-left (stepLines (g .steps) (t .from) (t .to) ++ markedLines ForClose (g .n) (t .marks)) (marked-in ForTerminal (g .n) (t .marks) u (q .0) (q .1))
+      Memᴰ·append-left (stepLines (g .steps) (t .from) (t .to) ++ markedLines ForClose (g .n) (t .marks)) (had-marked ForTerminal u (c .inRange u (Terminal u, m, refl)) m)
   had-written (Close u) m =
-      let q = mark-of ForClose u m in
       Memᴰ·append-right (markedLines ForTerminal (g .n) (t .marks))
-      (Memᴰ·append-right (stepLines (g .steps) (t .from) (t .to)) (marked-in ForClose (g .n) (t .marks) u (q .0) (q .1)))
+      (Memᴰ·append-right (stepLines (g .steps) (t .from) (t .to)) (had-marked ForClose u (c .inRange u (Close u, m, refl)) m))
 
-  -- The lists are as long as the number of steps says.
-  pub from-long : g .steps ≤ length (t .from)
-  from-long = omega (arith, length-take (g .steps) (t .from), ap length (c .from), c .steps)
+  -- The steps are the history's, in their order.
+  pub same-sources : sources (following [] (writtenOf g t)) ≡ sources h
+  same-sources =
+      written-ends (g .n) (g .steps) (t .marks) (t .from) (t .to) sources-ends (t .from) (λ p. refl) (omega (arith, length-take (g .steps) (t .from), ap length (c .from), c .steps)) ∙ c .from
 
-  pub to-long : g .steps ≤ length (t .to)
-  to-long = omega (arith, length-take (g .steps) (t .to), ap length (c .to), c .steps, targets-length h)
+  pub same-targets : targets (following [] (writtenOf g t)) ≡ targets h
+  same-targets =
+      written-ends (g .n) (g .steps) (t .marks) (t .from) (t .to) targets-ends (t .to) (λ p. refl) (omega (arith, length-take (g .steps) (t .to), ap length (c .to), c .steps, targets-length h)) ∙ c .to

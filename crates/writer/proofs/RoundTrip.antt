@@ -1,159 +1,90 @@
--- The round trip: of tables that fit, the written record is accepted line by line, and reading it gives the same marks, steps and statuses.
+-- The round trip: "For fitting tables, reading that record with the same limit gives the same marks, steps and statuses, and unseen from n on."
 -- Assumes nothing.
-use mathlib.Core.Path.{_≡_, refl, sym, _∙_, ap, subst}
-use mathlib.Core.Logic.{_⊎_, inl, inr, ⊎-elim}
-use mathlib.Core.List.{List, [], _∷_, _++_, append-assoc, List·Memᴰ, List·Memᴰ·not-nil, List·Memᴰ·append-cases}
-use Prim.Native.Nat.{ℕ, _+_, _-_, _≤_, _<_}
+use mathlib.Core.Path.{_≡_, refl, sym, _∙_, ap}
+use mathlib.Core.Logic.{inl, inr, ⊎-elim}
+use mathlib.Core.List.{List, [], List·Memᴰ, List·Memᴰ·not-nil}
+use mathlib.Core.Option.{none}
+use Prim.Native.Nat.{ℕ, _-_, _≤_, _<_}
 use native.Mathlib.Omega.{arith}
 use lib.ListN.{length, getD, take, drop}
 use Rattle.gid.specs.declared.Update.{Update}
 use Rattle.gid.specs.declared.Update.the-variants.{Step, Terminal, Close}
-use Rattle.gid.specs.Histories.{History, Has, following}
+use Rattle.gid.specs.Histories.{History, IsNamed, following}
 use Rattle.gid.specs.Statuses.{status}
-use Rattle.gid.specs.News.{below}
-use Rattle.gid.specs.Outcomes.{countSteps}
+use Rattle.gid.specs.Outcomes.{accepted, countSteps}
 use Rattle.gid.proofs.Paths.{Within as Inside}
-use Rattle.gid.proofs.News.{below-mem, below-rising}
 use Rattle.gid.proofs.Statuses.{status-unseen}
 use Rattle.tables.specs.declared.Graph.{Graph}
 use Rattle.tables.specs.Tables.{Tables}
-use Rattle.tables.specs.Refused.{lentNumber}
 use Rattle.tables.specs.Fitting.{sources, targets, marksOf, Consistent, Fits}
 use Rattle.tables.proofs.Refusing.{Lent, lent-leaves}
-use Rattle.tables.proofs.Listed.{listed-step}
-use Rattle.record.specs.declared.splitter.Answer.{Answer}
+use Rattle.engine.proofs.Replay.{count-sources}
 use Rattle.record.specs.Text.{Within}
 use Rattle.record.specs.Items.{items}
-use Rattle.reader.specs.Replaying.{afterItems}
-use Rattle.reader.specs.Standing.{Standing}
-use Rattle.writer.specs.declared.marking.Mark.the-variants.{Terminal as ForTerminal, Close as ForClose}
-use Rattle.writer.specs.Order.{hasMark, marking, markedLines, stepLines, writtenUpdates, recordOf}
-use Rattle.writer.specs.Answering.{theRecord, allLong, written, bufferAfter}
-use Rattle.writer.specs.declared.Written.the-variants.{End}
-use Rattle.writer.specs.Rereading.{numbered, AllAccepted, ReadBack, SameTables}
+use Rattle.reader.specs.declared.ReadAnswer.{ReadAnswer}
+use Rattle.reader.specs.Opening.{readerStates, openRefusal}
+use Rattle.reader.specs.Replaying.{historyOf, firstRefusal}
+use Rattle.reader.specs.Reading.{Reads}
+use Rattle.writer.specs.declared.Written.{Written}
+use Rattle.writer.specs.Answering.{writtenOutcome, theRecord, allLong, Writes}
+use Rattle.writer.specs.Rereading.{ReadBack}
 use Rattle.writer.proofs.Deciding.{ended}
-use Rattle.writer.proofs.Alike.{same-marks, same-status}
-use Rattle.writer.proofs.Splits.{AllWithin, items-record}
-use Rattle.writer.proofs.Accepting.{Unclosed, Plain, Taken, taken-append, plain-taken, closes-taken, unclosed-after, lines-taken}
-use Rattle.writer.proofs.Members.{follows, followed, count-append, count-following, count-marked, count-steps, written-sources, written-targets, marked-of, steps-of, written-had, had-written, from-long, to-long}
+use Rattle.writer.proofs.Alike.{same-marks, same-status, no-marks}
+use Rattle.writer.proofs.Splits.{items-record}
+use Rattle.writer.proofs.Accepting.{StatesBelow, lines-accepted}
+use Rattle.writer.proofs.Members.{writtenOf, follows, followed, written-legal, written-had, had-written, same-sources, same-targets}
 
-module _ {h : History} {g : Graph} {t : Tables} (c : Consistent h g t) (few : g .n ≤ 2048) where
-  terminals-plain : (x : Update) → List·Memᴰ x (markedLines ForTerminal (g .n) (t .marks)) → Plain x
-  terminals-plain x m =
-      let q = marked-of ForTerminal (g .n) (t .marks) x m in
-      subst (λ (y : Update). Plain y) (q .3) (let k = q .1 in omega arith)
+-- values that a record can hold
+within : (n : ℕ) (x : Update) → n ≤ readerStates → StatesBelow n x → Within x
+within n (Step u v) few r = (omega (arith, r u (inl refl)), omega (arith, r v (inr refl)))
+within n (Terminal u) few r = omega (arith, r u refl)
+within n (Close u) few r = omega (arith, r u refl)
 
-  steps-plain : (x : Update) → List·Memᴰ x (stepLines (g .steps) (t .from) (t .to)) → Plain x
-  steps-plain x m =
-      let q = steps-of (g .steps) (t .from) (t .to) x m in
-      let u = getD (t .from) (q .0) 0 in
-      let v = getD (t .to) (q .0) 0 in
-      let s = listed-step c (q .0) (q .1) in
-      let a = c .inRange u (Step u v, s, inl refl) in
-      let b = c .inRange v (Step u v, s, inr refl) in
-      subst (λ (y : Update). Plain y) (sym (q .2)) (omega arith, omega arith)
+module _ {h : History} {g : Graph} {t : Tables} (c : Consistent h g t) (l : Lent g (allLong g (t .marks) (t .from) (t .to))) where
+  abbrev bytes : List ℕ
+  bytes = theRecord g (t .marks) (t .from) (t .to)
 
-  before-closes : (x : Update) → List·Memᴰ x (markedLines ForTerminal (g .n) (t .marks) ++ stepLines (g .steps) (t .from) (t .to)) → Plain x
-  before-closes x m = ⊎-elim (terminals-plain x) (steps-plain x) (List·Memᴰ·append-cases (markedLines ForTerminal (g .n) (t .marks)) m)
+  -- The written updates are those of h.
+  to : Inside (following [] (writtenOf g t)) h
+  to x m = ⊎-elim (λ q. absurd (List·Memᴰ·not-nil q)) (written-had c) (followed [] (writtenOf g t) m)
 
-  -- the history's updates have values that a record can hold
-  had-within : (x : Update) → Has h x → Within x
-  had-within (Step u v) m =
-      let a = c .inRange u (Step u v, m, inl refl) in
-      let b = c .inRange v (Step u v, m, inr refl) in
-      (omega arith, omega arith)
-  had-within (Terminal u) m = let a = c .inRange u (Terminal u, m, refl) in omega arith
-  had-within (Close u) m = let a = c .inRange u (Close u, m, refl) in omega arith
+  of : Inside h (following [] (writtenOf g t))
+  of x m = follows [] (writtenOf g t) (had-written c x m)
 
-  module _ (some-limit : 0 < g .limit) (low : g .limit ≤ 8192) where
-    closes-marked : (f : History) → countSteps f ≤ g .limit → Unclosed f → Taken (g .limit) f (markedLines ForClose (g .n) (t .marks))
-    unfolding markedLines
-    closes-marked f r n =
-        closes-taken (g .limit) some-limit low f (below (g .n) (λ s. hasMark ForClose (getD (t .marks) s 0))) (below-rising (g .n) (λ s. hasMark ForClose (getD (t .marks) s 0)))
-        (λ s m. (let q = below-mem (g .n) (λ s. hasMark ForClose (getD (t .marks) s 0)) s .0 m .0 in omega arith, n s)) r
+  range : (x : Update) → List·Memᴰ x (writtenOf g t) → StatesBelow (g .n) x
+  range x m s q = c .inRange s (x, written-had c m, q)
 
-  module _ (some-limit : 0 < g .limit) (low : g .limit ≤ 8192) (room : g .steps ≤ g .limit) where
-    -- No written line is refused.
-    written-taken : Taken (g .limit) [] (writtenUpdates (g .n) (g .steps) (t .marks) (t .from) (t .to))
-    unfolding writtenUpdates
-    written-taken =
-        subst (λ (l : List Update). Taken (g .limit) [] l) (append-assoc a b k)
-        (taken-append (g .limit) [] (a ++ b) k
-        (plain-taken (g .limit) some-limit low [] (a ++ b) (λ s m. List·Memᴰ·not-nil m) before-closes (omega (arith, count)))
-        (closes (omega (arith, count, count-following [] (a ++ b)))))
-      where
-        a : List Update
-        a = markedLines ForTerminal (g .n) (t .marks)
+  count : countSteps (following [] (writtenOf g t)) ≡ g .steps
+  count = count-sources (following [] (writtenOf g t)) ∙ ap length (same-sources c) ∙ sym (c .steps)
 
-        b : List Update
-        b = stepLines (g .steps) (t .from) (t .to)
+  -- Every line is accepted: what is read is the written updates.
+  read : (firstRefusal (g .limit) [] (items bytes) ≡ none) × (historyOf (g .limit) bytes ≡ following [] (writtenOf g t))
+  read =
+      rw (items-record (g .n) (g .steps) (t .marks) (t .from) (t .to) (l .few-states) (omega (arith, l .room, l .low-limit)) (λ x m. within (g .n) x (l .few-states) (range x m)))
+      (lines-accepted (g .limit) (l .some-limit) (l .low-limit) 2 [] (writtenOf g t) (written-legal (g .n) (g .steps) (t .marks) (t .from) (t .to)) (λ x m s q. omega (arith, range x m s q, l .few-states)) (omega (arith, count, l .room)))
 
-        k : List Update
-        k = markedLines ForClose (g .n) (t .marks)
-
-        count : countSteps (a ++ b) ≡ g .steps
-        count = omega (arith, count-append a b, count-marked ForTerminal (g .n) (t .marks), count-steps (g .steps) (t .from) (t .to))
-
-        closes : countSteps (following [] (a ++ b)) ≤ g .limit → Taken (g .limit) (following [] (a ++ b)) k
-        closes r = closes-marked some-limit low (following [] (a ++ b)) r (λ s m. unclosed-after [] (a ++ b) (λ s m. List·Memᴰ·not-nil m) before-closes s m)
-
-    written-items : items (theRecord g (t .marks) (t .from) (t .to)) ≡ numbered 2 (writtenUpdates (g .n) (g .steps) (t .marks) (t .from) (t .to))
-    written-items =
-        items-record (g .n) (g .steps) (t .marks) (t .from) (t .to) few (omega arith) (λ x m. had-within x (written-had c x m))
-
-    read-lines : AllAccepted (g .limit) [] (items (theRecord g (t .marks) (t .from) (t .to))) × (afterItems (g .limit) [] (items (theRecord g (t .marks) (t .from) (t .to))) ≡ following [] (writtenUpdates (g .n) (g .steps) (t .marks) (t .from) (t .to)))
-    read-lines =
-        subst (λ (a : List Answer). AllAccepted (g .limit) [] a × (afterItems (g .limit) [] a ≡ following [] (writtenUpdates (g .n) (g .steps) (t .marks) (t .from) (t .to)))) (sym written-items)
-        (lines-taken (g .limit) 2 [] (writtenUpdates (g .n) (g .steps) (t .marks) (t .from) (t .to)) written-taken)
-
-  -- The history that is read has the updates of h, and no other.
-  read-inside : Inside (following [] (writtenUpdates (g .n) (g .steps) (t .marks) (t .from) (t .to))) h
-  read-inside x m =
-      ⊎-elim (λ q. absurd (List·Memᴰ·not-nil q)) (written-had c x) (followed [] (writtenUpdates (g .n) (g .steps) (t .marks) (t .from) (t .to)) x m)
-
-  inside-read : Inside h (following [] (writtenUpdates (g .n) (g .steps) (t .marks) (t .from) (t .to)))
-  inside-read x m = follows [] (writtenUpdates (g .n) (g .steps) (t .marks) (t .from) (t .to)) x (had-written c x m)
-
-  read-back : (f : History) (a : List Answer) → AllAccepted (g .limit) [] a → afterItems (g .limit) [] a ≡ f → f ≡ following [] (writtenUpdates (g .n) (g .steps) (t .marks) (t .from) (t .to)) → ReadBack (g .limit) (g .n) h a
-  read-back f a acc e d =
+  read-same : {t₀ t′ : Tables} {r : ReadAnswer} → openRefusal (g .limit) t₀ ≡ none → Reads (g .limit) bytes t₀ t′ r → ReadBack g t t′ r
+  read-same {t₀} {t′} {r} o q =
+      let s = q .stands o .fits in
+      let e = read .1 in
+      let k : countSteps (historyOf (g .limit) bytes) ≡ g .steps = ap countSteps e ∙ count in
+      let marked : (u : ℕ) → u < readerStates → getD (t′ .marks) u 0 ≡ marksOf h u = λ u b. s .marks u b ∙ ap (λ (f : History). marksOf f u) e ∙ same-marks to of u in
+      let judged : (u : ℕ) → u < readerStates → getD (t′ .status) u 0 ≡ status h u = λ u b. s .status u b ∙ ap (λ (f : History). status f u) e ∙ same-status to of u in
+      let unnamed : (u : ℕ) → g .n ≤ u → IsNamed h u → ⊥ = λ u p m. let i = c .inRange u m in omega arith in
       record {
-        accepts = acc;
-        marks = λ s. ap (λ (k : History). marksOf k s) (e ∙ d) ∙ same-marks read-inside inside-read s;
-        from = ap sources (e ∙ d) ∙ written-sources (g .n) (g .steps) (t .marks) (t .from) (t .to) (from-long c) ∙ c .from;
-        to = ap targets (e ∙ d) ∙ written-targets (g .n) (g .steps) (t .marks) (t .from) (t .to) (to-long c) ∙ c .to;
-        statuses = same;
-        unseen = λ s p. same s ∙ status-unseen h s .1 (λ m. let r = c .inRange s m in omega arith);
+        answer = q .answer ∙ rw (o, read .0, k);
+        tables =
+            record {
+              marks = λ u p. marked u (omega (arith, l .few-states)) ∙ sym (c .marks u p);
+              from = ap (λ (i : ℕ). take i (t′ .from)) (sym k) ∙ s .from ∙ ap sources e ∙ same-sources c ∙ sym (c .from);
+              to = ap (λ (i : ℕ). take i (t′ .to)) (sym k) ∙ s .to ∙ ap targets e ∙ same-targets c ∙ sym (c .to);
+              status = λ u p. judged u (omega (arith, l .few-states)) ∙ sym (c .status u p);
+              unseen = λ u p b. (judged u b ∙ status-unseen h u .1 (unnamed u p), marked u b ∙ no-marks h u (unnamed u p));
+            };
       }
-    where
-      same : (s : ℕ) → status (afterItems (g .limit) [] a) s ≡ status h s
-      same s = ap (λ (k : History). status k s) (e ∙ d) ∙ same-status read-inside inside-read s
 
--- The round trip, for tables that fit and that the tests 1 to 4 let pass.
-pub round-trip : (g : Graph) (t : Tables) (f : Fits g t) → lentNumber g (allLong g (t .marks) (t .from) (t .to)) ≡ 0 → ReadBack (g .limit) (g .n) (f .0) (items (theRecord g (t .marks) (t .from) (t .to)))
-round-trip g t f e =
-    let l = lent-leaves g (allLong g (t .marks) (t .from) (t .to)) e in
-    let r = read-lines (f .2) (l .few-states) (l .some-limit) (l .low-limit) (l .room) in
-    read-back (f .2) (l .few-states) (afterItems (g .limit) [] (items (theRecord g (t .marks) (t .from) (t .to)))) (items (theRecord g (t .marks) (t .from) (t .to))) (r .0) refl (r .1)
-
--- The same of what the call left in the buffer, from the starting place up to its answer.
-pub write-read : (g : Graph) (t : Tables) (f : Fits g t) (buf : List ℕ) (at r : ℕ) → written g (t .marks) (t .from) (t .to) buf at ≡ End r → ReadBack (g .limit) (g .n) (f .0) (items (take (r - at) (drop at (bufferAfter g (t .marks) (t .from) (t .to) buf at))))
-write-read g t f buf at r e =
-    let w = ended g (t .marks) (t .from) (t .to) buf at r e in
-    subst (λ (b : List ℕ). ReadBack (g .limit) (g .n) (f .0) (items b)) (sym (w .1)) (round-trip g t f (w .0))
-
--- The same of the tables that the reader filled, with the same limit.
-pub same-tables : (g : Graph) (t : Tables) → Fits g t → lentNumber g (allLong g (t .marks) (t .from) (t .to)) ≡ 0 → {g′ : Graph} {t′ : Tables} → Standing (g .limit) (afterItems (g .limit) [] (items (theRecord g (t .marks) (t .from) (t .to)))) g′ t′ → SameTables g t g′ t′
-same-tables g t f e {g′} {t′} r =
-    let c = f .2 in
-    let few = lent-leaves g (allLong g (t .marks) (t .from) (t .to)) e .few-states in
-    let b = round-trip g t f e in
-    let k : g′ .steps ≡ g .steps = r .fits .steps ∙ ap length (b .from) ∙ sym (c .steps) in
-    let n = r .states in
-    record {
-      marks = λ s p. r .fits .marks s (omega arith) ∙ b .marks s ∙ sym (c .marks s p);
-      steps = k;
-      from = ap (λ (i : ℕ). take i (t′ .from)) (sym k) ∙ r .fits .from ∙ b .from ∙ sym (c .from);
-      to = ap (λ (i : ℕ). take i (t′ .to)) (sym k) ∙ r .fits .to ∙ b .to ∙ sym (c .to);
-      status = λ s p. r .fits .status s (omega arith) ∙ b .statuses s ∙ sym (c .status s p);
-      unseen = λ s p q. r .fits .status s (omega arith) ∙ b .unseen s p;
-    }
+-- What `write` wrote of tables that fit, from the starting place up to its answer, read by `reader::read` with the same limit into any tables that are long enough.
+pub read-back-same : (g : Graph) (t : Tables) → Fits g t → {buf buf′ : List ℕ} {at end : ℕ} {w : Written} → Writes g (t .marks) (t .from) (t .to) buf at buf′ w → writtenOutcome w ≡ accepted end → {t₀ t′ : Tables} {r : ReadAnswer} → openRefusal (g .limit) t₀ ≡ none → Reads (g .limit) (take (end - at) (drop at buf′)) t₀ t′ r → ReadBack g t t′ r
+read-back-same g t f w e o q =
+    let d = ended w e in
+    read-same (f .2) (lent-leaves g (allLong g (t .marks) (t .from) (t .to)) (d .0)) o (rw (d .1) at q)

@@ -1,5 +1,6 @@
 -- What the writer answers: "It tests 1 to 4, then 13", and then "returns the place after the last byte, and leaves all other bytes".
 -- Assumes nothing.
+use mathlib.Core.Path.{_≡_}
 use mathlib.Core.Bool.{Bool, _||_}
 use mathlib.Core.List.{List, [], _∷_, _++_}
 use mathlib.Core.Option.{Option, some, none}
@@ -7,12 +8,18 @@ use Prim.Native.Nat.{ℕ, _+_, _-_}
 use lib.Dec.{ltb}
 use lib.ListN.{length, take, drop}
 use Rattle.gid.specs.Refusals.{Rule, first, lent}
+use Rattle.gid.specs.Outcomes.{Outcome, refused, accepted, byNumber}
 use Rattle.tables.specs.declared.Graph.{Graph}
 use Rattle.tables.specs.Tables.{Needed, enough}
 use Rattle.tables.specs.Refused.{given}
 use Rattle.writer.specs.declared.Written.{Written}
 use Rattle.writer.specs.declared.Written.the-variants.{End, Refused}
 use Rattle.writer.specs.Order.{recordOf}
+
+-- Document 01's number and value for each answer: the place after the last byte.
+abbrev pub writtenOutcome : Written → Outcome ℕ
+writtenOutcome (End place) = accepted place
+writtenOutcome (Refused k) = refused k
 
 -- "Test 3 covers the tables that the call in hand is lent": the marks and the step list.
 abbrev pub writerNeeds : Graph → ℕ → ℕ → ℕ → List Needed
@@ -35,13 +42,9 @@ module _ (g : Graph) (marks from to : List ℕ) where
     abbrev pub writeRules : List Rule
     writeRules = lent (given g allLong [] []) ++ (record { applies = short buf at (length theRecord); number = 13 } ∷ [])
 
-    abbrev pub orEnd : Option ℕ → Written
-    orEnd none = End (at + length theRecord)
-    orEnd (some k) = Refused k
-
-    -- The answer.
-    unfoldable pub written : Written
-    written = orEnd (first writeRules)
+    -- The answer: the number of the first test that applies, or the place after the record.
+    unfoldable pub writeAnswer : Outcome ℕ
+    writeAnswer = byNumber (first writeRules) (at + length theRecord)
 
     abbrev pub orFilled : Option ℕ → List ℕ
     orFilled none = take at buf ++ (theRecord ++ drop (at + length theRecord) buf)
@@ -50,3 +53,8 @@ module _ (g : Graph) (marks from to : List ℕ) where
     -- The buffer after the call: what stood before the place, the record, and what stood behind it; as it was where the call is refused.
     unfoldable pub bufferAfter : List ℕ
     bufferAfter = orFilled (first writeRules)
+
+-- The answer and the buffer after the call. The tables are lent for reading alone.
+pub record Writes (g : Graph) (marks from to buf : List ℕ) (at : ℕ) (buf′ : List ℕ) (r : Written) : Type 0 where
+  pub answer : writtenOutcome r ≡ writeAnswer g marks from to buf at
+  pub buffer : buf′ ≡ bufferAfter g marks from to buf at

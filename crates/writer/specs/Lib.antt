@@ -1,5 +1,6 @@
--- What the writer writes, what it answers, and what reading it back comes to.
+-- What the writer writes, what it answers, and what reading it back comes to. This is what a reader believes:
 pub mod Order
-pub mod Sizing
 pub mod Answering
 pub mod Rereading
+-- Inner contracts: what one state adds to the record.
+pub mod Sizing

@@ -1,12 +1,11 @@
 -- The record of some tables: "names line, T lines by rising state, steps in list order, C lines by rising state, each line ended by a newline". It "uses only the marks 2 and 4 and the listed steps, on tables that do not fit too".
 -- Assumes nothing.
-use mathlib.Core.Bool.{Bool}
-use mathlib.Core.List.{List, [], _∷_, _++_, map}
+use mathlib.Core.Bool.{Bool, true, cond}
+use mathlib.Core.List.{List, [], _∷_, _++_}
 use Prim.Native.Nat.{ℕ, zero, suc}
 use lib.ListN.{getD}
 use Rattle.gid.specs.declared.Update.{Update}
 use Rattle.gid.specs.declared.Update.the-variants.{Step, Terminal, Close}
-use Rattle.gid.specs.News.{below}
 use Rattle.tables.specs.Marks.{hasTerminal, hasClosed}
 use Rattle.record.specs.Text.{names, text}
 use Rattle.writer.specs.declared.marking.Mark.{Mark}
@@ -22,14 +21,24 @@ abbrev pub marking : Mark → ℕ → Update
 marking ForTerminal s = Terminal s
 marking ForClose s = Close s
 
+-- The updates of those indices below n that pass a test, by rising index.
+unfoldable pub inOrder : ℕ → (ℕ → Bool) → (ℕ → Update) → List Update
+inOrder zero test update = []
+inOrder (suc i) test update = inOrder i test update ++ cond (test i) (update i ∷ []) []
+
 -- The states below n that have the mark, "by rising state".
-unfoldable pub markedLines : Mark → ℕ → List ℕ → List Update
-markedLines k n marks = map (marking k) (below n (λ s. hasMark k (getD marks s 0)))
+abbrev pub isMarked : Mark → List ℕ → ℕ → Bool
+isMarked k marks s = hasMark k (getD marks s 0)
+
+abbrev pub markedLines : Mark → ℕ → List ℕ → List Update
+markedLines k n marks = inOrder n (isMarked k marks) (marking k)
 
 -- The first m listed steps, "in list order".
-unfoldable pub stepLines : ℕ → List ℕ → List ℕ → List Update
-stepLines zero from to = []
-stepLines (suc p) from to = stepLines p from to ++ (Step (getD from p 0) (getD to p 0) ∷ [])
+abbrev pub stepAt : List ℕ → List ℕ → ℕ → Update
+stepAt from to p = Step (getD from p 0) (getD to p 0)
+
+abbrev pub stepLines : ℕ → List ℕ → List ℕ → List Update
+stepLines m from to = inOrder m (λ p. true) (stepAt from to)
 
 -- The updates of the record of n states and m steps.
 unfoldable pub writtenUpdates : ℕ → ℕ → List ℕ → List ℕ → List ℕ → List Update

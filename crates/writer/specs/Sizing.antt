@@ -2,7 +2,7 @@
 -- Assumes nothing.
 use mathlib.Core.Bool.{cond}
 use mathlib.Core.List.{List, [], _∷_}
-use Prim.Native.Nat.{ℕ, _≤_}
+use Prim.Native.Nat.{ℕ}
 use Rattle.gid.specs.declared.Update.{Update}
 use Rattle.writer.specs.declared.marking.Mark.{Mark}
 use Rattle.writer.specs.Order.{hasMark, marking}

@@ -1,26 +1,18 @@
 // The bytes of a record, line by line: each line's writer is lent the rest of the buffer. Each call returns the place after what it wrote.
-ghost use mathlib.Core.Path.{_≡_};
-ghost use mathlib.Core.List.{List, [], _∷_};
-ghost use Prim.Native.Nat.{ℕ, _≤_, _<_, _+_};
+ghost use Prim.Native.Nat.{_≤_, _+_};
 ghost use lib.ListN.{length};
 ghost use Rattle.gid.specs.declared.Update.{Update};
 ghost use Rattle.record.specs.Text.{WroteAt};
-ghost use Rattle.writer.specs.Order.{hasMark, marking, markedLines, stepLines, lineBytes, bytesOf, namesBytes, recordOf};
+ghost use Rattle.writer.specs.Order.{markedLines, stepLines, lineBytes, bytesOf, recordOf};
 ghost use Rattle.writer.specs.Sizing.{markLine};
 use crate::marking::Mark;
 use crate::marking::has;
 use crate::marking::update_of;
 use gid::Update;
-use record::put_bytes;
+use record::put_bytes_at;
 use record::put_update;
 
-fn put_names(buf: &mut [u8], at: usize) -> usize
-    requires { ⌜ at + length namesBytes ≤ length (now buf) ⌝ }
-    ensures { λ r. ⌜ WroteAt at namesBytes (now (buf .entry)) (now (buf .exit)) r ⌝ }
-{
-    at + put_bytes(&mut buf[at..], b"kind from to\n")
-}
-
+// An update's line, in the rest of the buffer.
 fn put_line(buf: &mut [u8], at: usize, update: Update) -> usize
     requires { ⌜ at + length (lineBytes update) ≤ length (now buf) ⌝ }
     ensures { λ r. ⌜ WroteAt at (lineBytes update) (now (buf .entry)) (now (buf .exit)) r ⌝ }
@@ -94,7 +86,7 @@ pub fn put_record(
     requires { ⌜ (n ≤ length (now marks)) × (m ≤ length (now from)) × (m ≤ length (now to)) × (at + length (recordOf n m (now marks) (now from) (now to)) ≤ length (now buf)) ⌝ }
     ensures { λ r. ⌜ WroteAt at (recordOf n m (now (marks .entry)) (now (from .entry)) (now (to .entry))) (now (buf .entry)) (now (buf .exit)) r ⌝ }
 {
-    let terminals = put_names(buf, at);
+    let terminals = put_bytes_at(buf, at, b"kind from to\n");
     let steps = put_marks(buf, terminals, Mark::Terminal, n, marks);
     let closes = put_steps(buf, steps, m, from, to);
     put_marks(buf, closes, Mark::Close, n, marks)

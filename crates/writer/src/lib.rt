@@ -1,10 +1,7 @@
 // The record writer: turns tables into a record, in the caller's buffer from a starting place in its middle.
 ghost use mathlib.Core.Path.{_≡_};
-ghost use mathlib.Core.Bool.{Bool};
-ghost use Prim.Native.Nat.{ℕ};
-ghost use lib.ListN.{length};
 ghost use Rattle.tables.specs.Tables.{enough};
-ghost use Rattle.writer.specs.Answering.{writerNeeds, written, bufferAfter};
+ghost use Rattle.writer.specs.Answering.{writerNeeds, Writes};
 
 mod filling;
 mod marking;
@@ -32,7 +29,7 @@ pub fn write(
     buf: &mut [u8],
     at: usize,
 ) -> Written
-    ensures { λ r. ⌜ (r ≡ written graph (now (marks .entry)) (now (from .entry)) (now (to .entry)) (now (buf .entry)) at) × (now (buf .exit) ≡ bufferAfter graph (now (marks .entry)) (now (from .entry)) (now (to .entry)) (now (buf .entry)) at) ⌝ }
+    ensures { λ r. ⌜ Writes graph (now (marks .entry)) (now (from .entry)) (now (to .entry)) (now (buf .entry)) at (now (buf .exit)) r ⌝ }
 {
     let refused = graph.lent(all_long(graph, marks.len(), from.len(), to.len()));
     if refused != 0 {

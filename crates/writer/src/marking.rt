@@ -3,6 +3,7 @@ ghost use mathlib.Core.Path.{_≡_};
 ghost use Rattle.writer.specs.Order.{hasMark, marking};
 use gid::Update;
 use tables::has_closed;
+use tables::has_terminal;
 
 // "uses only the marks 2 and 4"
 pub enum Mark {
@@ -15,7 +16,7 @@ pub fn has(mark: Mark, byte: u8) -> bool
     ensures { λ r. ⌜ r ≡ hasMark mark byte ⌝ }
 {
     match mark {
-        Mark::Terminal => byte / 2 % 2 == 1,
+        Mark::Terminal => has_terminal(byte),
         Mark::Close => has_closed(byte),
     }
 }

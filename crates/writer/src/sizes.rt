@@ -1,11 +1,11 @@
 // The length of a record, known before any byte is written.
 ghost use mathlib.Core.Path.{_≡_};
-ghost use mathlib.Core.List.{List, [], _∷_};
-ghost use Prim.Native.Nat.{ℕ, _≤_, _<_, _+_, _*_};
+ghost use Prim.Native.Nat.{_≤_, _+_, _*_};
 ghost use lib.ListN.{length};
 ghost use Rattle.gid.specs.declared.Update.{Update};
+ghost use Rattle.gid.specs.Refusals.{maxStates, maxSteps};
 ghost use Rattle.record.specs.Text.{decimal, maxValue, Within};
-ghost use Rattle.writer.specs.Order.{hasMark, marking, markedLines, stepLines, lineBytes, bytesOf, recordOf};
+ghost use Rattle.writer.specs.Order.{markedLines, stepLines, lineBytes, bytesOf, recordOf};
 ghost use Rattle.writer.specs.Sizing.{markLine};
 use crate::marking::Mark;
 use crate::marking::has;
@@ -57,7 +57,7 @@ fn mark_size(mark: Mark, byte: u8, state: usize) -> usize
 }
 
 fn marks_size(mark: Mark, n: usize, marks: &[u8]) -> usize
-    requires { ⌜ (n ≤ length (now marks)) × (n ≤ 2048) ⌝ }
+    requires { ⌜ (n ≤ length (now marks)) × (n ≤ maxStates) ⌝ }
     ensures { λ r. ⌜ (r ≡ length (bytesOf (markedLines mark n (now (marks .entry))))) × (r ≤ 14 * n) ⌝ }
 {
     let mut size: usize = 0;
@@ -79,7 +79,7 @@ fn step_size(from: u16, to: u16) -> usize
 }
 
 fn steps_size(m: usize, from: &[u16], to: &[u16]) -> usize
-    requires { ⌜ (m ≤ length (now from)) × (m ≤ length (now to)) × (m ≤ 8192) ⌝ }
+    requires { ⌜ (m ≤ length (now from)) × (m ≤ length (now to)) × (m ≤ maxSteps) ⌝ }
     ensures { λ r. ⌜ (r ≡ length (bytesOf (stepLines m (now (from .entry)) (now (to .entry))))) × (r ≤ 14 * m) ⌝ }
 {
     let mut size: usize = 0;
@@ -91,9 +91,9 @@ fn steps_size(m: usize, from: &[u16], to: &[u16]) -> usize
     size
 }
 
-// The length of the record.
+// The length of the record. Its names line has 13 bytes.
 pub fn record_size(n: usize, m: usize, marks: &[u8], from: &[u16], to: &[u16]) -> usize
-    requires { ⌜ (n ≤ length (now marks)) × (n ≤ 2048) × (m ≤ length (now from)) × (m ≤ length (now to)) × (m ≤ 8192) ⌝ }
+    requires { ⌜ (n ≤ length (now marks)) × (n ≤ maxStates) × (m ≤ length (now from)) × (m ≤ length (now to)) × (m ≤ maxSteps) ⌝ }
     ensures { λ r. ⌜ r ≡ length (recordOf n m (now (marks .entry)) (now (from .entry)) (now (to .entry))) ⌝ }
 {
     let terminals = marks_size(Mark::Terminal, n, marks);

@@ -1,127 +1,149 @@
--- `draw_input` meets its contract: bounds, the lengths of what it was lent, and that the tables stay those of a legal history. The measure is the number of pieces that are left.
+-- `draw_input` serves and draws turn by turn. The invariant: some bytes have been read, and the drawing has come so far.
 -- Assumes nothing.
-use Prim.Native.Nat.{_+_, _≤_, _<_}
+use mathlib.Core.Path.{sym, _∙_, ap}
 use native.Mathlib.Omega.{arith}
-use mathlib.Core.Path.{_≡_, refl, sym, _∙_, ap}
-use mathlib.Core.Logic.{⊎-elim}
-use lib.ListN.{length}
 use lib.Seq.{length-take-le}
-use Rattle.engine.specs.Done.{tablesOf}
-use Rattle.picture.specs.Reading.{Stands}
+use Rattle.tables.specs.declared.lengths.Lengths.{Lengths}
+use Rattle.tables.specs.Tables.{tablesOf}
+use Rattle.streams.proofs.Serving.{served-fits}
+use Rattle.draw.proofs.Turns.{Turns, turns-none, turns-more, turns-ended, turns-up}
+use borrow.Author.Needs.{needs}
 use Rattle.draw.proofs.draw_input.Statement.{statement}
 use Rattle.draw.proofs.draw_input.Tie as tie
 
 abbrev Inv-loop : tie.InvT-loop
-Inv-loop input₀ output status₀ marks₀ from₀ to₀ successor₀ news₀ in-head₀ out-head₀ queue₀ visited₀ in-next₀ out-next₀ reader₀ pieces₀ input status marks from to successor news in-head out-head queue visited in-next out-next reader pieces =
-    ((length status ≡ length status₀) × (length marks ≡ length marks₀) × (length from ≡ length from₀) × (length to ≡ length to₀) × (length successor ≡ length successor₀) × (length news ≡ length news₀) × (length in-head ≡ length in-head₀) × (length out-head ≡ length out-head₀) × (length queue ≡ length queue₀) × (length visited ≡ length visited₀) × (length in-next ≡ length in-next₀) × (length out-next ≡ length out-next₀))
-    × (length input ≡ length input₀)
-    × Stands (reader .engine .graph) (tablesOf status marks from to successor news in-head out-head queue visited in-next out-next)
+Inv-loop input₀ output₀ status₀ marks₀ from₀ to₀ successor₀ news₀ in-head₀ out-head₀ queue₀ visited₀ in-next₀ out-next₀ drawer₀ count₀ turns₀ t23 input output status marks from to successor news in-head out-head queue visited in-next out-next drawer count turns =
+    Turns input₀ output₀ (tablesOf status₀ marks₀ from₀ to₀ successor₀ news₀ in-head₀ out-head₀ queue₀ visited₀ in-next₀ out-next₀) drawer count input output (tablesOf status marks from to successor news in-head out-head queue visited in-next out-next)
 
 abbrev μ-loop : tie.MeasureT-loop
-μ-loop input₀ output status₀ marks₀ from₀ to₀ successor₀ news₀ in-head₀ out-head₀ queue₀ visited₀ in-next₀ out-next₀ reader₀ pieces₀ input status marks from to successor news in-head out-head queue visited in-next out-next reader pieces =
-    pieces
+μ-loop input₀ output₀ status₀ marks₀ from₀ to₀ successor₀ news₀ in-head₀ out-head₀ queue₀ visited₀ in-next₀ out-next₀ drawer₀ count₀ turns₀ t23 input output status marks from to successor news in-head out-head queue visited in-next out-next drawer count turns =
+    turns
 
-start-requires : tie.Need-start-requires Inv-loop μ-loop
-start-requires c κs = tt
+begin-requires : tie.Need-begin-requires Inv-loop μ-loop
+begin-requires c κs = search needs
 
 loop-holds : tie.Need-loop-holds Inv-loop μ-loop
-loop-holds c =
-    ((refl, refl, refl, refl, refl, refl, refl, refl, refl, refl, refl, refl), refl, c .before .before .before .before .before .before .before .before .before .before .before .before .before .before .before .pre .1)
+loop-holds c = turns-none (c .before .before .before .before .before .before .before .before .before .before .before .before .before .before .before .before .before .before .before .before .before .before .before .before .before .before .before .before .before .before .before .before .before .before .before .before .before .before .before .before .before .before .before .before .before .before .before .before .before .before .before .args .input .now) (c .before .before .before .before .before .before .before .before .before .before .before .before .before .before .before .before .before .before .before .before .before .before .before .before .before .before .before .before .before .before .before .before .before .before .before .before .before .before .before .before .before .before .before .before .before .before .before .before .before .before .before .args .output .now) (c .before .before .before .before .before .before .before .before .before .before .before .before .before .before .before .before .before .before .before .before .before .before .before .before .begin .ensures) (c .before .before .before .before .before .before .before .before .before .before .before .before .before .before .before .before .before .before .before .before .before .before .before .before .before .before .before .before .before .before .before .before .before .before .before .before .before .before .before .before .before .before .before .before .before .before .before .before .before .before .before .pre .0) (c .before .before .before .before .before .before .before .before .before .before .before .before .before .before .before .before .before .before .before .before .before .before .before .before .before .before .before .before .before .before .before .before .before .before .before .before .before .before .before .before .before .before .before .before .before .before .before .before .before .before .before .pre .1)
 
-read-requires : tie.Need-read-requires Inv-loop μ-loop
-read-requires c κs = tt
+slice-aggregate-serve : tie.Need-slice-aggregate-serve Inv-loop μ-loop
+slice-aggregate-serve c = search needs
 
-count-requires : tie.Need-count-requires Inv-loop μ-loop
-count-requires c κs = tt
+serve-requires : tie.Need-serve-requires Inv-loop μ-loop
+serve-requires c κs = search needs
 
-slice-reshare-prefix-read-part : tie.Need-slice-reshare-prefix-read-part Inv-loop μ-loop
-slice-reshare-prefix-read-part c = c .count .ensures .0 .0
+enum-known-served : tie.Need-enum-known-served Inv-loop μ-loop
+enum-known-served c = search needs
 
-slice-aggregate-read-part : tie.Need-slice-aggregate-read-part Inv-loop μ-loop
-slice-aggregate-read-part c = c .before .count .ensures .0 .1
-
-read-part-requires : tie.Need-read-part-requires Inv-loop μ-loop
-read-part-requires c κs = tt
-
-sub-pieces : tie.Need-sub-pieces Inv-loop μ-loop
-sub-pieces c =
-    let t : 0 < c .before .before .before .before .before .before .before .before .before .before .before .before .before .before .before .before .before .before .before .before .before .before .before .before .before .before .before .before .before .before .before .before .before .before .before .before .before .before .before .before .before .before .before .before .before .before .loop .pieces = c .before .before .before .before .before .before .before .before .before .before .before .before .before .before .before .before .before .before .before .before .before .before .before .before .before .before .before .before .before .before .before .before .before .before .before .before .before .before .before .before .before .before .before .before .before .loop-test .taken in
-    omega (arith, t)
-
-loop-less : tie.Need-loop-less Inv-loop μ-loop
-loop-less c =
-    let t : 0 < c .before .before .before .before .before .before .before .before .before .before .before .before .before .before .before .before .before .before .before .before .before .before .before .before .before .before .before .before .before .before .before .before .before .before .before .before .before .before .before .before .before .before .before .before .before .before .loop .pieces = c .before .before .before .before .before .before .before .before .before .before .before .before .before .before .before .before .before .before .before .before .before .before .before .before .before .before .before .before .before .before .before .before .before .before .before .before .before .before .before .before .before .before .before .before .before .loop-test .taken in
-    omega (arith, t)
-
-loop-again : tie.Need-loop-again Inv-loop μ-loop
-loop-again c =
-    let p = c .before .before .before .before .before .before .before .before .before .before .before .before .before .before .before .before .before .before .before .before .before .before .before .before .read-part in
-    let v = c .before .before .before .before .before .before .before .before .before .before .before .before .before .before .before .before .before .before .before .before .before .before .before .before .before .before .before .before .before .before .before .before .before .before .before .before .before .before .before .before .before .before .before .before .before .before .loop .inv in
-    let q = p .ensures .says (v .2 .0) (v .2 .1) in
-    ((p .kept .1 .1 .0 ∙ v .0 .0, p .kept .1 .1 .1 .0 ∙ v .0 .1, p .kept .1 .1 .1 .1 .0 ∙ v .0 .2, p .kept .1 .1 .1 .1 .1 .0 ∙ v .0 .3, p .kept .1 .1 .1 .1 .1 .1 .0 ∙ v .0 .4, p .kept .1 .1 .1 .1 .1 .1 .1 .0 ∙ v .0 .5, p .kept .1 .1 .1 .1 .1 .1 .1 .1 .0 ∙ v .0 .6, p .kept .1 .1 .1 .1 .1 .1 .1 .1 .1 .0 ∙ v .0 .7, p .kept .1 .1 .1 .1 .1 .1 .1 .1 .1 .1 .0 ∙ v .0 .8, p .kept .1 .1 .1 .1 .1 .1 .1 .1 .1 .1 .1 .0 ∙ v .0 .9, p .kept .1 .1 .1 .1 .1 .1 .1 .1 .1 .1 .1 .1 .0 ∙ v .0 .10, p .kept .1 .1 .1 .1 .1 .1 .1 .1 .1 .1 .1 .1 .1 .0 ∙ v .0 .11), c .before .before .before .before .before .before .before .before .before .before .before .before .before .before .before .before .before .before .before .before .before .before .before .before .before .before .before .before .before .before .before .before .before .before .before .before .before .before .before .before .before .before .before .read .kept .1 .0 ∙ v .1, (q .0, q .1))
-
-draw-end-requires : tie.Need-draw-end-requires Inv-loop μ-loop
-draw-end-requires c κs = (c .before .before .before .before .before .before .before .before .before .before .before .before .before .before .before .before .before .before .before .before .before .before .before .before .before .before .before .before .before .before .pre .0, c .before .before .before .before .before .before .before .before .before .before .before .before .before .before .loop .inv .2)
-
-slice-reshare-prefix-write-all : tie.Need-slice-reshare-prefix-write-all Inv-loop μ-loop
-slice-reshare-prefix-write-all c =
-    let p = c .before .before .before .before .before .before .before .before .before .before .before .before .before .before .before .before .before .before .before .before .before .before .before .before .before .before .draw-end in
-    omega (arith, p .ensures .within, p .kept .1 .0)
-
-slice-aggregate-write-all : tie.Need-slice-aggregate-write-all Inv-loop μ-loop
-slice-aggregate-write-all c =
-    let p = c .before .before .before .before .before .before .before .before .before .before .before .before .before .before .before .before .before .before .before .before .before .before .before .before .before .before .before .draw-end in
-    sym (length-take-le (p .result) (p .last .1 .0) (omega (arith, p .ensures .within, p .kept .1 .0)))
-
-write-all-requires : tie.Need-write-all-requires Inv-loop μ-loop
-write-all-requires c κs = tt
+is-over-requires : tie.Need-is-over-requires Inv-loop μ-loop
+is-over-requires c κs = search needs
 
 same-length : tie.Need-same-length Inv-loop μ-loop
-same-length c =
-    let v = c .before .before .before .before .before .before .before .before .before .before .before .before .before .before .before .before .before .before .before .before .before .before .before .before .before .before .before .before .before .before .before .before .before .before .before .before .before .before .before .before .before .before .before .loop .inv in
-    ⊎-elim (λ w. ap length (w .1) ∙ v .1) (λ w. ap length (w .6) ∙ w .2 .kept .1 .0 ∙ v .1) (c .before .before .before .before .before .before .before .before .before .before .before .before .before .before .before .before .before .before .before .before .before .before .before .before .before .before .before .before .before .before .before .before .before .before .before .before .before .before .before .before .before .before .loop-test .came)
+same-length c = c .before .before .before .before .serve .kept .1 .1 .1 .1 .0 ∙ c .before .before .before .before .before .before .before .before .before .loop .inv .inputs
 
 same-length-2 : tie.Need-same-length-2 Inv-loop μ-loop
-same-length-2 c = c .before .before .before .before .before .before .before .before .before .before .before .before .before .before .before .before .before .before .before .before .before .before .before .before .before .before .before .before .draw-end .kept .1 .0
+same-length-2 c = c .before .before .before .before .before .before .before .before .before .loop .inv .outputs
 
 same-length-3 : tie.Need-same-length-3 Inv-loop μ-loop
-same-length-3 c = c .before .before .before .before .before .before .before .before .before .before .before .before .before .before .before .before .before .before .before .before .before .before .before .before .before .before .before .before .draw-end .kept .1 .1 .1 .0 ∙ c .before .before .before .before .before .before .before .before .before .before .before .before .before .before .before .before .before .before .before .before .before .before .before .before .before .before .before .before .before .before .before .before .before .before .before .before .before .before .before .before .before .before .before .loop .inv .0 .0
+same-length-3 c = ap (λ (x : Lengths). x .status) (c .before .before .before .before .before .before .before .before .before .loop .inv .tables) ∙ c .before .before .before .before .before .before .before .before .before .before .before .before .before .before .before .before .before .before .before .before .before .before .before .before .before .before .before .before .before .before .before .before .before .before .begin .kept .0
 
 same-length-4 : tie.Need-same-length-4 Inv-loop μ-loop
-same-length-4 c = c .before .before .before .before .before .before .before .before .before .before .before .before .before .before .before .before .before .before .before .before .before .before .before .before .before .before .before .before .draw-end .kept .1 .1 .1 .1 .0 ∙ c .before .before .before .before .before .before .before .before .before .before .before .before .before .before .before .before .before .before .before .before .before .before .before .before .before .before .before .before .before .before .before .before .before .before .before .before .before .before .before .before .before .before .before .loop .inv .0 .1
+same-length-4 c = ap (λ (x : Lengths). x .marks) (c .before .before .before .before .before .before .before .before .before .loop .inv .tables) ∙ c .before .before .before .before .before .before .before .before .before .before .before .before .before .before .before .before .before .before .before .before .before .before .before .before .before .before .before .before .before .before .before .before .before .before .begin .kept .1 .0
 
 same-length-5 : tie.Need-same-length-5 Inv-loop μ-loop
-same-length-5 c = c .before .before .before .before .before .before .before .before .before .before .before .before .before .before .before .before .before .before .before .before .before .before .before .before .before .before .before .before .draw-end .kept .1 .1 .1 .1 .1 .0 ∙ c .before .before .before .before .before .before .before .before .before .before .before .before .before .before .before .before .before .before .before .before .before .before .before .before .before .before .before .before .before .before .before .before .before .before .before .before .before .before .before .before .before .before .before .loop .inv .0 .2
+same-length-5 c = ap (λ (x : Lengths). x .from) (c .before .before .before .before .before .before .before .before .before .loop .inv .tables) ∙ c .before .before .before .before .before .before .before .before .before .before .before .before .before .before .before .before .before .before .before .before .before .before .before .before .before .before .before .before .before .before .before .before .before .before .begin .kept .1 .1 .0
 
 same-length-6 : tie.Need-same-length-6 Inv-loop μ-loop
-same-length-6 c = c .before .before .before .before .before .before .before .before .before .before .before .before .before .before .before .before .before .before .before .before .before .before .before .before .before .before .before .before .draw-end .kept .1 .1 .1 .1 .1 .1 .0 ∙ c .before .before .before .before .before .before .before .before .before .before .before .before .before .before .before .before .before .before .before .before .before .before .before .before .before .before .before .before .before .before .before .before .before .before .before .before .before .before .before .before .before .before .before .loop .inv .0 .3
+same-length-6 c = ap (λ (x : Lengths). x .to) (c .before .before .before .before .before .before .before .before .before .loop .inv .tables) ∙ c .before .before .before .before .before .before .before .before .before .before .before .before .before .before .before .before .before .before .before .before .before .before .before .before .before .before .before .before .before .before .before .before .before .before .begin .kept .1 .1 .1 .0
 
 same-length-7 : tie.Need-same-length-7 Inv-loop μ-loop
-same-length-7 c = c .before .before .before .before .before .before .before .before .before .before .before .before .before .before .before .before .before .before .before .before .before .before .before .before .before .before .before .before .draw-end .kept .1 .1 .1 .1 .1 .1 .1 .0 ∙ c .before .before .before .before .before .before .before .before .before .before .before .before .before .before .before .before .before .before .before .before .before .before .before .before .before .before .before .before .before .before .before .before .before .before .before .before .before .before .before .before .before .before .before .loop .inv .0 .4
+same-length-7 c = ap (λ (x : Lengths). x .successor) (c .before .before .before .before .before .before .before .before .before .loop .inv .tables) ∙ c .before .before .before .before .before .before .before .before .before .before .before .before .before .before .before .before .before .before .before .before .before .before .before .before .before .before .before .before .before .before .before .before .before .before .begin .kept .1 .1 .1 .1 .0
 
 same-length-8 : tie.Need-same-length-8 Inv-loop μ-loop
-same-length-8 c = c .before .before .before .before .before .before .before .before .before .before .before .before .before .before .before .before .before .before .before .before .before .before .before .before .before .before .before .before .draw-end .kept .1 .1 .1 .1 .1 .1 .1 .1 .0 ∙ c .before .before .before .before .before .before .before .before .before .before .before .before .before .before .before .before .before .before .before .before .before .before .before .before .before .before .before .before .before .before .before .before .before .before .before .before .before .before .before .before .before .before .before .loop .inv .0 .5
+same-length-8 c = ap (λ (x : Lengths). x .news) (c .before .before .before .before .before .before .before .before .before .loop .inv .tables) ∙ c .before .before .before .before .before .before .before .before .before .before .before .before .before .before .before .before .before .before .before .before .before .before .before .before .before .before .before .before .before .before .before .before .before .before .begin .kept .1 .1 .1 .1 .1 .0
 
 same-length-9 : tie.Need-same-length-9 Inv-loop μ-loop
-same-length-9 c = c .before .before .before .before .before .before .before .before .before .before .before .before .before .before .before .before .before .before .before .before .before .before .before .before .before .before .before .before .draw-end .kept .1 .1 .1 .1 .1 .1 .1 .1 .1 .0 ∙ c .before .before .before .before .before .before .before .before .before .before .before .before .before .before .before .before .before .before .before .before .before .before .before .before .before .before .before .before .before .before .before .before .before .before .before .before .before .before .before .before .before .before .before .loop .inv .0 .6
+same-length-9 c = ap (λ (x : Lengths). x .«in_head») (c .before .before .before .before .before .before .before .before .before .loop .inv .tables) ∙ c .before .before .before .before .before .before .before .before .before .before .before .before .before .before .before .before .before .before .before .before .before .before .before .before .before .before .before .before .before .before .before .before .before .before .begin .kept .1 .1 .1 .1 .1 .1 .0
 
 same-length-10 : tie.Need-same-length-10 Inv-loop μ-loop
-same-length-10 c = c .before .before .before .before .before .before .before .before .before .before .before .before .before .before .before .before .before .before .before .before .before .before .before .before .before .before .before .before .draw-end .kept .1 .1 .1 .1 .1 .1 .1 .1 .1 .1 .0 ∙ c .before .before .before .before .before .before .before .before .before .before .before .before .before .before .before .before .before .before .before .before .before .before .before .before .before .before .before .before .before .before .before .before .before .before .before .before .before .before .before .before .before .before .before .loop .inv .0 .7
+same-length-10 c = ap (λ (x : Lengths). x .«out_head») (c .before .before .before .before .before .before .before .before .before .loop .inv .tables) ∙ c .before .before .before .before .before .before .before .before .before .before .before .before .before .before .before .before .before .before .before .before .before .before .before .before .before .before .before .before .before .before .before .before .before .before .begin .kept .1 .1 .1 .1 .1 .1 .1 .0
 
 same-length-11 : tie.Need-same-length-11 Inv-loop μ-loop
-same-length-11 c = c .before .before .before .before .before .before .before .before .before .before .before .before .before .before .before .before .before .before .before .before .before .before .before .before .before .before .before .before .draw-end .kept .1 .1 .1 .1 .1 .1 .1 .1 .1 .1 .1 .0 ∙ c .before .before .before .before .before .before .before .before .before .before .before .before .before .before .before .before .before .before .before .before .before .before .before .before .before .before .before .before .before .before .before .before .before .before .before .before .before .before .before .before .before .before .before .loop .inv .0 .8
+same-length-11 c = ap (λ (x : Lengths). x .queue) (c .before .before .before .before .before .before .before .before .before .loop .inv .tables) ∙ c .before .before .before .before .before .before .before .before .before .before .before .before .before .before .before .before .before .before .before .before .before .before .before .before .before .before .before .before .before .before .before .before .before .before .begin .kept .1 .1 .1 .1 .1 .1 .1 .1 .0
 
 same-length-12 : tie.Need-same-length-12 Inv-loop μ-loop
-same-length-12 c = c .before .before .before .before .before .before .before .before .before .before .before .before .before .before .before .before .before .before .before .before .before .before .before .before .before .before .before .before .draw-end .kept .1 .1 .1 .1 .1 .1 .1 .1 .1 .1 .1 .1 .0 ∙ c .before .before .before .before .before .before .before .before .before .before .before .before .before .before .before .before .before .before .before .before .before .before .before .before .before .before .before .before .before .before .before .before .before .before .before .before .before .before .before .before .before .before .before .loop .inv .0 .9
+same-length-12 c = ap (λ (x : Lengths). x .visited) (c .before .before .before .before .before .before .before .before .before .loop .inv .tables) ∙ c .before .before .before .before .before .before .before .before .before .before .before .before .before .before .before .before .before .before .before .before .before .before .before .before .before .before .before .before .before .before .before .before .before .before .begin .kept .1 .1 .1 .1 .1 .1 .1 .1 .1 .0
 
 same-length-13 : tie.Need-same-length-13 Inv-loop μ-loop
-same-length-13 c = c .before .before .before .before .before .before .before .before .before .before .before .before .before .before .before .before .before .before .before .before .before .before .before .before .before .before .before .before .draw-end .kept .1 .1 .1 .1 .1 .1 .1 .1 .1 .1 .1 .1 .1 .0 ∙ c .before .before .before .before .before .before .before .before .before .before .before .before .before .before .before .before .before .before .before .before .before .before .before .before .before .before .before .before .before .before .before .before .before .before .before .before .before .before .before .before .before .before .before .loop .inv .0 .10
+same-length-13 c = ap (λ (x : Lengths). x .«in_next») (c .before .before .before .before .before .before .before .before .before .loop .inv .tables) ∙ c .before .before .before .before .before .before .before .before .before .before .before .before .before .before .before .before .before .before .before .before .before .before .before .before .before .before .before .before .before .before .before .before .before .before .begin .kept .1 .1 .1 .1 .1 .1 .1 .1 .1 .1 .0
 
 same-length-14 : tie.Need-same-length-14 Inv-loop μ-loop
-same-length-14 c = c .before .before .before .before .before .before .before .before .before .before .before .before .before .before .before .before .before .before .before .before .before .before .before .before .before .before .before .before .draw-end .kept .1 .1 .1 .1 .1 .1 .1 .1 .1 .1 .1 .1 .1 .1 .0 ∙ c .before .before .before .before .before .before .before .before .before .before .before .before .before .before .before .before .before .before .before .before .before .before .before .before .before .before .before .before .before .before .before .before .before .before .before .before .before .before .before .before .before .before .before .loop .inv .0 .11
+same-length-14 c = ap (λ (x : Lengths). x .«out_next») (c .before .before .before .before .before .before .before .before .before .loop .inv .tables) ∙ c .before .before .before .before .before .before .before .before .before .before .before .before .before .before .before .before .before .before .before .before .before .before .before .before .before .before .before .before .before .before .before .before .before .before .begin .kept .1 .1 .1 .1 .1 .1 .1 .1 .1 .1 .1 .0
 
 returns : tie.Need-returns Inv-loop μ-loop
-returns c = tt
+returns c = turns-ended (c .before .before .before .before .before .before .before .before .before .loop .inv) (c .before .before .before .before .serve .ensures) (c .is-over .ensures)
+
+slice-reshare-prefix-draw : tie.Need-slice-reshare-prefix-draw Inv-loop μ-loop
+slice-reshare-prefix-draw c = served-fits (c .before .before .before .before .before .serve .ensures) (c .before .served .given .1) (c .before .before .before .before .before .before .before .before .before .before .loop .inv .fits)
+
+slice-aggregate-draw : tie.Need-slice-aggregate-draw Inv-loop μ-loop
+slice-aggregate-draw c = sym (length-take-le _ _ (served-fits (c .before .before .before .before .before .before .serve .ensures) (c .before .before .served .given .1) (c .before .before .before .before .before .before .before .before .before .before .before .loop .inv .fits)))
+
+draw-requires : tie.Need-draw-requires Inv-loop μ-loop
+draw-requires c κs = search needs
+
+sub-turns : tie.Need-sub-turns Inv-loop μ-loop
+sub-turns c = omega (arith, c .before .before .before .before .before .before .before .before .before .before .before .before .before .before .before .before .before .before .before .before .before .before .before .before .before .before .before .before .before .before .before .before .before .before .before .before .before .before .before .before .before .before .before .before .before .before .before .before .before .before .loop-test .taken)
+
+loop-less : tie.Need-loop-less Inv-loop μ-loop
+loop-less c = omega (arith, c .before .before .before .before .before .before .before .before .before .before .before .before .before .before .before .before .before .before .before .before .before .before .before .before .before .before .before .before .before .before .before .before .before .before .before .before .before .before .before .before .before .before .before .before .before .before .before .before .before .before .loop-test .taken)
+
+loop-again : tie.Need-loop-again Inv-loop μ-loop
+loop-again c = turns-more (c .before .before .before .before .before .before .before .before .before .before .before .before .before .before .before .before .before .before .before .before .before .before .before .before .before .before .before .before .before .before .before .before .before .before .before .before .before .before .before .before .before .before .before .before .before .before .before .before .before .before .before .loop .inv) (c .before .before .before .before .before .before .before .before .before .before .before .before .before .before .before .before .before .before .before .before .before .before .before .before .before .before .before .before .before .before .before .before .before .before .before .before .before .before .before .before .before .before .before .before .before .before .serve .ensures) (c .before .before .before .before .before .before .before .before .before .before .before .before .before .before .before .before .before .before .before .before .before .before .before .before .before .before .before .before .before .before .before .before .before .before .before .before .before .before .before .before .before .before .served .given .1) (c .before .before .before .before .before .before .before .before .before .before .before .before .before .before .before .before .before .before .before .before .before .before .before .before .before .before .before .before .before .before .before .before .before .before .before .before .before .before .before .before .before .before .before .before .before .before .serve .kept .1 .1 .1 .1 .0) (c .before .before .before .before .before .before .before .before .before .before .before .before .before .before .before .before .before .before .before .before .before .before .before .before .before .before .draw .ensures)
+
+same-length-15 : tie.Need-same-length-15 Inv-loop μ-loop
+same-length-15 c = c .before .loop .inv .inputs
+
+same-length-16 : tie.Need-same-length-16 Inv-loop μ-loop
+same-length-16 c = c .before .loop .inv .outputs
+
+same-length-17 : tie.Need-same-length-17 Inv-loop μ-loop
+same-length-17 c = ap (λ (x : Lengths). x .status) (c .before .loop .inv .tables) ∙ c .before .before .before .before .before .before .before .before .before .before .before .before .before .before .before .before .before .before .before .before .before .before .before .before .before .before .begin .kept .0
+
+same-length-18 : tie.Need-same-length-18 Inv-loop μ-loop
+same-length-18 c = ap (λ (x : Lengths). x .marks) (c .before .loop .inv .tables) ∙ c .before .before .before .before .before .before .before .before .before .before .before .before .before .before .before .before .before .before .before .before .before .before .before .before .before .before .begin .kept .1 .0
+
+same-length-19 : tie.Need-same-length-19 Inv-loop μ-loop
+same-length-19 c = ap (λ (x : Lengths). x .from) (c .before .loop .inv .tables) ∙ c .before .before .before .before .before .before .before .before .before .before .before .before .before .before .before .before .before .before .before .before .before .before .before .before .before .before .begin .kept .1 .1 .0
+
+same-length-20 : tie.Need-same-length-20 Inv-loop μ-loop
+same-length-20 c = ap (λ (x : Lengths). x .to) (c .before .loop .inv .tables) ∙ c .before .before .before .before .before .before .before .before .before .before .before .before .before .before .before .before .before .before .before .before .before .before .before .before .before .before .begin .kept .1 .1 .1 .0
+
+same-length-21 : tie.Need-same-length-21 Inv-loop μ-loop
+same-length-21 c = ap (λ (x : Lengths). x .successor) (c .before .loop .inv .tables) ∙ c .before .before .before .before .before .before .before .before .before .before .before .before .before .before .before .before .before .before .before .before .before .before .before .before .before .before .begin .kept .1 .1 .1 .1 .0
+
+same-length-22 : tie.Need-same-length-22 Inv-loop μ-loop
+same-length-22 c = ap (λ (x : Lengths). x .news) (c .before .loop .inv .tables) ∙ c .before .before .before .before .before .before .before .before .before .before .before .before .before .before .before .before .before .before .before .before .before .before .before .before .before .before .begin .kept .1 .1 .1 .1 .1 .0
+
+same-length-23 : tie.Need-same-length-23 Inv-loop μ-loop
+same-length-23 c = ap (λ (x : Lengths). x .«in_head») (c .before .loop .inv .tables) ∙ c .before .before .before .before .before .before .before .before .before .before .before .before .before .before .before .before .before .before .before .before .before .before .before .before .before .before .begin .kept .1 .1 .1 .1 .1 .1 .0
+
+same-length-24 : tie.Need-same-length-24 Inv-loop μ-loop
+same-length-24 c = ap (λ (x : Lengths). x .«out_head») (c .before .loop .inv .tables) ∙ c .before .before .before .before .before .before .before .before .before .before .before .before .before .before .before .before .before .before .before .before .before .before .before .before .before .before .begin .kept .1 .1 .1 .1 .1 .1 .1 .0
+
+same-length-25 : tie.Need-same-length-25 Inv-loop μ-loop
+same-length-25 c = ap (λ (x : Lengths). x .queue) (c .before .loop .inv .tables) ∙ c .before .before .before .before .before .before .before .before .before .before .before .before .before .before .before .before .before .before .before .before .before .before .before .before .before .before .begin .kept .1 .1 .1 .1 .1 .1 .1 .1 .0
+
+same-length-26 : tie.Need-same-length-26 Inv-loop μ-loop
+same-length-26 c = ap (λ (x : Lengths). x .visited) (c .before .loop .inv .tables) ∙ c .before .before .before .before .before .before .before .before .before .before .before .before .before .before .before .before .before .before .before .before .before .before .before .before .before .before .begin .kept .1 .1 .1 .1 .1 .1 .1 .1 .1 .0
+
+same-length-27 : tie.Need-same-length-27 Inv-loop μ-loop
+same-length-27 c = ap (λ (x : Lengths). x .«in_next») (c .before .loop .inv .tables) ∙ c .before .before .before .before .before .before .before .before .before .before .before .before .before .before .before .before .before .before .before .before .before .before .before .before .before .before .begin .kept .1 .1 .1 .1 .1 .1 .1 .1 .1 .1 .0
+
+same-length-28 : tie.Need-same-length-28 Inv-loop μ-loop
+same-length-28 c = ap (λ (x : Lengths). x .«out_next») (c .before .loop .inv .tables) ∙ c .before .before .before .before .before .before .before .before .before .before .before .before .before .before .before .before .before .before .before .before .before .before .before .before .before .before .begin .kept .1 .1 .1 .1 .1 .1 .1 .1 .1 .1 .1 .0
+
+returns-2 : tie.Need-returns-2 Inv-loop μ-loop
+returns-2 c = turns-up (c .before .loop .inv)
 
 pub draw-input-spec : {M : Type 1} → statement M
 draw-input-spec =
@@ -129,20 +151,12 @@ draw-input-spec =
     (tie.spec
     Inv-loop
     μ-loop
-    start-requires
+    begin-requires
     loop-holds
-    read-requires
-    count-requires
-    slice-reshare-prefix-read-part
-    slice-aggregate-read-part
-    read-part-requires
-    sub-pieces
-    loop-less
-    loop-again
-    draw-end-requires
-    slice-reshare-prefix-write-all
-    slice-aggregate-write-all
-    write-all-requires
+    slice-aggregate-serve
+    serve-requires
+    enum-known-served
+    is-over-requires
     same-length
     same-length-2
     same-length-3
@@ -157,4 +171,25 @@ draw-input-spec =
     same-length-12
     same-length-13
     same-length-14
-    returns)
+    returns
+    slice-reshare-prefix-draw
+    slice-aggregate-draw
+    draw-requires
+    sub-turns
+    loop-less
+    loop-again
+    same-length-15
+    same-length-16
+    same-length-17
+    same-length-18
+    same-length-19
+    same-length-20
+    same-length-21
+    same-length-22
+    same-length-23
+    same-length-24
+    same-length-25
+    same-length-26
+    same-length-27
+    same-length-28
+    returns-2)

@@ -1,153 +1,149 @@
--- `list_input` meets its contract: bounds, and the lengths of what it was lent. The measure is the number of pieces that are left.
+-- `list_input` serves and lists turn by turn. The invariant: some bytes have been read and written, and the listing has come so far.
 -- Assumes nothing.
-use Prim.Native.Nat.{_+_, _≤_, _<_}
+use mathlib.Core.Path.{sym, _∙_, ap}
 use native.Mathlib.Omega.{arith}
-use mathlib.Core.Path.{_≡_, refl, sym, _∙_, ap}
-use mathlib.Core.Logic.{⊎-elim}
-use lib.ListN.{length}
 use lib.Seq.{length-take-le}
+use Rattle.tables.specs.declared.lengths.Lengths.{Lengths}
+use Rattle.tables.specs.Tables.{tablesOf}
+use Rattle.streams.proofs.Serving.{served-fits}
+use Rattle.listing.proofs.Turns.{Turns, turns-none, turns-more, turns-ended, turns-up}
+use borrow.Author.Needs.{needs}
 use Rattle.listing.proofs.list_input.Statement.{statement}
 use Rattle.listing.proofs.list_input.Tie as tie
 
 abbrev Inv-loop : tie.InvT-loop
-Inv-loop input₀ output₀ status₀ marks₀ from₀ to₀ successor₀ news₀ in-head₀ out-head₀ queue₀ visited₀ in-next₀ out-next₀ end₀ reader₀ pieces₀ input output status marks from to successor news in-head out-head queue visited in-next out-next end reader pieces =
-    ((length status ≡ length status₀) × (length marks ≡ length marks₀) × (length from ≡ length from₀) × (length to ≡ length to₀) × (length successor ≡ length successor₀) × (length news ≡ length news₀) × (length in-head ≡ length in-head₀) × (length out-head ≡ length out-head₀) × (length queue ≡ length queue₀) × (length visited ≡ length visited₀) × (length in-next ≡ length in-next₀) × (length out-next ≡ length out-next₀))
-    × ((length input ≡ length input₀) × (length output ≡ length output₀) × ((end ≤ length output) × (65536 ≤ length output)))
+Inv-loop input₀ output₀ status₀ marks₀ from₀ to₀ successor₀ news₀ in-head₀ out-head₀ queue₀ visited₀ in-next₀ out-next₀ lister₀ count₀ turns₀ t23 input output status marks from to successor news in-head out-head queue visited in-next out-next lister count turns =
+    Turns input₀ output₀ (tablesOf status₀ marks₀ from₀ to₀ successor₀ news₀ in-head₀ out-head₀ queue₀ visited₀ in-next₀ out-next₀) lister count input output (tablesOf status marks from to successor news in-head out-head queue visited in-next out-next)
 
 abbrev μ-loop : tie.MeasureT-loop
-μ-loop input₀ output₀ status₀ marks₀ from₀ to₀ successor₀ news₀ in-head₀ out-head₀ queue₀ visited₀ in-next₀ out-next₀ end₀ reader₀ pieces₀ input output status marks from to successor news in-head out-head queue visited in-next out-next end reader pieces =
-    pieces
+μ-loop input₀ output₀ status₀ marks₀ from₀ to₀ successor₀ news₀ in-head₀ out-head₀ queue₀ visited₀ in-next₀ out-next₀ lister₀ count₀ turns₀ t23 input output status marks from to successor news in-head out-head queue visited in-next out-next lister count turns =
+    turns
 
-put-header-requires : tie.Need-put-header-requires Inv-loop μ-loop
-put-header-requires c κs =
-    let h : 65536 ≤ length (c .before .before .before .before .before .before .before .before .before .before .before .before .before .before .before .args .output .now) = c .before .before .before .before .before .before .before .before .before .before .before .before .before .before .before .pre in
-    omega (arith, h)
-
-start-requires : tie.Need-start-requires Inv-loop μ-loop
-start-requires c κs = tt
+begin-requires : tie.Need-begin-requires Inv-loop μ-loop
+begin-requires c κs = search needs
 
 loop-holds : tie.Need-loop-holds Inv-loop μ-loop
-loop-holds c =
-    let s = c .before .before .before .before .before .before .before .before .before .before .before .before .before .before .before .before .before .before .before in
-    let p = c .before .before .before .put-header in
-    let a : p .result ≡ 20 = p .ensures .after in
-    let b : length (p .last .0) ≡ length (s .args .output .now) = p .kept .0 in
-    let h : 65536 ≤ length (s .args .output .now) = s .pre in
-    ((refl, refl, refl, refl, refl, refl, refl, refl, refl, refl, refl, refl), (refl, refl, (omega (arith, a, b, h), omega (arith, b, h))))
+loop-holds c = turns-none (c .before .before .before .before .before .before .before .before .before .before .before .before .before .before .before .before .before .before .before .before .before .before .before .before .before .before .before .before .before .before .before .before .before .before .before .before .before .before .before .before .before .before .before .before .before .before .before .before .before .before .before .before .before .before .args .input .now) (c .before .before .before .before .before .before .before .before .before .before .before .before .before .before .before .before .before .before .before .before .before .before .before .before .before .before .begin .ensures) (c .before .before .before .before .before .before .before .before .before .before .before .before .before .before .before .before .before .before .before .before .before .before .before .before .before .before .before .before .before .before .before .before .before .before .before .before .before .before .before .before .before .before .before .before .before .before .before .before .before .before .before .before .before .before .pre .0) (c .before .before .before .before .before .before .before .before .before .before .before .before .before .before .before .before .before .before .before .before .before .before .before .before .before .before .before .before .before .before .before .before .before .before .before .before .before .before .before .before .before .before .before .before .before .before .before .before .before .before .before .before .before .before .pre .1)
 
-read-requires : tie.Need-read-requires Inv-loop μ-loop
-read-requires c κs = tt
+slice-aggregate-serve : tie.Need-slice-aggregate-serve Inv-loop μ-loop
+slice-aggregate-serve c = search needs
 
-count-requires : tie.Need-count-requires Inv-loop μ-loop
-count-requires c κs = tt
+serve-requires : tie.Need-serve-requires Inv-loop μ-loop
+serve-requires c κs = search needs
 
-slice-reshare-prefix-list-piece : tie.Need-slice-reshare-prefix-list-piece Inv-loop μ-loop
-slice-reshare-prefix-list-piece c = c .count .ensures .0 .0
+enum-known-served : tie.Need-enum-known-served Inv-loop μ-loop
+enum-known-served c = search needs
 
-slice-aggregate-list-piece : tie.Need-slice-aggregate-list-piece Inv-loop μ-loop
-slice-aggregate-list-piece c = c .before .count .ensures .0 .1
-
-list-piece-requires : tie.Need-list-piece-requires Inv-loop μ-loop
-list-piece-requires c κs = c .before .before .before .before .before .before .before .before .before .before .before .before .before .before .before .before .before .before .before .before .before .before .loop .inv .1 .2
-
-sub-pieces : tie.Need-sub-pieces Inv-loop μ-loop
-sub-pieces c =
-    let t : 0 < c .before .before .before .before .before .before .before .before .before .before .before .before .before .before .before .before .before .before .before .before .before .before .before .before .before .before .before .before .before .before .before .before .before .before .before .before .before .before .before .before .before .before .before .before .before .before .before .before .before .before .loop .pieces = c .before .before .before .before .before .before .before .before .before .before .before .before .before .before .before .before .before .before .before .before .before .before .before .before .before .before .before .before .before .before .before .before .before .before .before .before .before .before .before .before .before .before .before .before .before .before .before .before .before .loop-test .taken in
-    omega (arith, t)
-
-loop-less : tie.Need-loop-less Inv-loop μ-loop
-loop-less c =
-    let t : 0 < c .before .before .before .before .before .before .before .before .before .before .before .before .before .before .before .before .before .before .before .before .before .before .before .before .before .before .before .before .before .before .before .before .before .before .before .before .before .before .before .before .before .before .before .before .before .before .before .before .before .before .loop .pieces = c .before .before .before .before .before .before .before .before .before .before .before .before .before .before .before .before .before .before .before .before .before .before .before .before .before .before .before .before .before .before .before .before .before .before .before .before .before .before .before .before .before .before .before .before .before .before .before .before .before .loop-test .taken in
-    omega (arith, t)
-
-loop-again : tie.Need-loop-again Inv-loop μ-loop
-loop-again c =
-    let l = c .before .before .before .before .before .before .before .before .before .before .before .before .before .before .before .before .before .before .before .before .before .before .before .before .before .before .before .before .before .before .before .before .before .before .before .before .before .before .before .before .before .before .before .before .before .before .before .before .before .before .loop in
-    let p = c .before .before .before .before .before .before .before .before .before .before .before .before .before .before .before .before .before .before .before .before .before .before .before .before .before .before .before .list-piece in
-    let r = c .before .before .before .before .before .before .before .before .before .before .before .before .before .before .before .before .before .before .before .before .before .before .before .before .before .before .before .before .before .before .before .before .before .before .before .before .before .before .before .before .before .before .before .before .before .before .before .read in
-    let v = l .inv in
-    let a : p .result .end ≤ length (l .output) = p .ensures in
-    let b : length (p .last .1 .1 .0) ≡ length (l .output) = p .kept .1 .1 .0 in
-    ((p .kept .1 .1 .1 .1 .0 ∙ v .0 .0, p .kept .1 .1 .1 .1 .1 .0 ∙ v .0 .1, p .kept .1 .1 .1 .1 .1 .1 .0 ∙ v .0 .2, p .kept .1 .1 .1 .1 .1 .1 .1 .0 ∙ v .0 .3, p .kept .1 .1 .1 .1 .1 .1 .1 .1 .0 ∙ v .0 .4, p .kept .1 .1 .1 .1 .1 .1 .1 .1 .1 .0 ∙ v .0 .5, p .kept .1 .1 .1 .1 .1 .1 .1 .1 .1 .1 .0 ∙ v .0 .6, p .kept .1 .1 .1 .1 .1 .1 .1 .1 .1 .1 .1 .0 ∙ v .0 .7, p .kept .1 .1 .1 .1 .1 .1 .1 .1 .1 .1 .1 .1 .0 ∙ v .0 .8, p .kept .1 .1 .1 .1 .1 .1 .1 .1 .1 .1 .1 .1 .1 .0 ∙ v .0 .9, p .kept .1 .1 .1 .1 .1 .1 .1 .1 .1 .1 .1 .1 .1 .1 .0 ∙ v .0 .10, p .kept .1 .1 .1 .1 .1 .1 .1 .1 .1 .1 .1 .1 .1 .1 .1 .0 ∙ v .0 .11), (r .kept .1 .0 ∙ v .1 .0, b ∙ v .1 .1, (omega (arith, a, b), omega (arith, b, v .1 .2 .1))))
-
-with-room-requires : tie.Need-with-room-requires Inv-loop μ-loop
-with-room-requires c κs = c .before .before .loop .inv .1 .2
-
-list-end-requires : tie.Need-list-end-requires Inv-loop μ-loop
-list-end-requires c κs =
-    let l = c .before .before .before .before .before .before .before .before .before .before .before .before .before .before .before .before .loop in
-    let w = c .before .before .before .before .before .before .before .before .before .before .before .before .before .with-room in
-    let e : w .result + 40960 ≤ length (l .output) = w .ensures in
-    let z : w .result + 34896 ≤ length (l .output) = omega (arith, e) in
-    z
-
-slice-reshare-prefix-write-all : tie.Need-slice-reshare-prefix-write-all Inv-loop μ-loop
-slice-reshare-prefix-write-all c =
-    let l = c .before .before .before .before .before .before .before .before .before .before .before .before .before .before .before .before .before .before .before .before .before .before .before .before .before .before .before .before .before .before .before .before .before .before .before .before .before .before .before .before .before .before .before .loop in
-    let p = c .before .before .before .before .before .before .before .before .before .before .before .before .before .before .before .before .before .before .before .before .before .before .before .before .before .before .list-end in
-    let a : p .result ≤ length (l .output) = p .ensures .within in
-    let b : length (p .last .1 .0) ≡ length (l .output) = p .kept .1 .0 in
-    let z : p .result ≤ length (p .last .1 .0) = omega (arith, a, b) in
-    z
-
-slice-aggregate-write-all : tie.Need-slice-aggregate-write-all Inv-loop μ-loop
-slice-aggregate-write-all c =
-    let l = c .before .before .before .before .before .before .before .before .before .before .before .before .before .before .before .before .before .before .before .before .before .before .before .before .before .before .before .before .before .before .before .before .before .before .before .before .before .before .before .before .before .before .before .before .loop in
-    let p = c .before .before .before .before .before .before .before .before .before .before .before .before .before .before .before .before .before .before .before .before .before .before .before .before .before .before .before .list-end in
-    let a : p .result ≤ length (l .output) = p .ensures .within in
-    let b : length (p .last .1 .0) ≡ length (l .output) = p .kept .1 .0 in
-    let z : p .result ≤ length (p .last .1 .0) = omega (arith, a, b) in
-    sym (length-take-le (p .result) (p .last .1 .0) z)
-
-write-all-requires : tie.Need-write-all-requires Inv-loop μ-loop
-write-all-requires c κs = tt
+is-over-requires : tie.Need-is-over-requires Inv-loop μ-loop
+is-over-requires c κs = search needs
 
 same-length : tie.Need-same-length Inv-loop μ-loop
-same-length c =
-    let v = c .before .before .before .before .before .before .before .before .before .before .before .before .before .before .before .before .before .before .before .before .before .before .before .before .before .before .before .before .before .before .before .before .before .before .before .before .before .before .before .before .before .before .before .before .before .loop .inv in
-    ⊎-elim (λ w. ap length (w .1) ∙ v .1 .0) (λ w. ap length (w .6) ∙ w .2 .kept .1 .0 ∙ v .1 .0) (c .before .before .before .before .before .before .before .before .before .before .before .before .before .before .before .before .before .before .before .before .before .before .before .before .before .before .before .before .before .before .before .before .before .before .before .before .before .before .before .before .before .before .before .before .loop-test .came)
+same-length c = c .before .before .before .before .serve .kept .1 .1 .1 .1 .0 ∙ c .before .before .before .before .before .before .before .before .before .loop .inv .inputs
 
 same-length-2 : tie.Need-same-length-2 Inv-loop μ-loop
-same-length-2 c = c .before .before .before .before .before .before .before .before .before .before .before .before .before .before .before .before .before .before .before .before .before .before .before .before .before .before .before .before .list-end .kept .1 .0 ∙ c .before .before .before .before .before .before .before .before .before .before .before .before .before .before .before .before .before .before .before .before .before .before .before .before .before .before .before .before .before .before .before .before .before .before .before .before .before .before .before .before .before .before .before .before .before .loop .inv .1 .1 ∙ c .before .before .before .before .before .before .before .before .before .before .before .before .before .before .before .before .before .before .before .before .before .before .before .before .before .before .before .before .before .before .before .before .before .before .before .before .before .before .before .before .before .before .before .before .before .before .before .before .before .put-header .kept .0
+same-length-2 c = c .before .before .before .before .before .before .before .before .before .loop .inv .outputs ∙ c .before .before .before .before .before .before .before .before .before .before .before .before .before .before .before .before .before .before .before .before .before .before .before .before .before .before .before .before .before .before .before .before .before .before .before .before .begin .kept .0
 
 same-length-3 : tie.Need-same-length-3 Inv-loop μ-loop
-same-length-3 c = c .before .before .before .before .before .before .before .before .before .before .before .before .before .before .before .before .before .before .before .before .before .before .before .before .before .before .before .before .list-end .kept .1 .1 .1 .0 ∙ c .before .before .before .before .before .before .before .before .before .before .before .before .before .before .before .before .before .before .before .before .before .before .before .before .before .before .before .before .before .before .before .before .before .before .before .before .before .before .before .before .before .before .before .before .before .loop .inv .0 .0
+same-length-3 c = ap (λ (x : Lengths). x .status) (c .before .before .before .before .before .before .before .before .before .loop .inv .tables) ∙ c .before .before .before .before .before .before .before .before .before .before .before .before .before .before .before .before .before .before .before .before .before .before .before .before .before .before .before .before .before .before .before .before .before .before .before .before .begin .kept .1 .0
 
 same-length-4 : tie.Need-same-length-4 Inv-loop μ-loop
-same-length-4 c = c .before .before .before .before .before .before .before .before .before .before .before .before .before .before .before .before .before .before .before .before .before .before .before .before .before .before .before .before .list-end .kept .1 .1 .1 .1 .0 ∙ c .before .before .before .before .before .before .before .before .before .before .before .before .before .before .before .before .before .before .before .before .before .before .before .before .before .before .before .before .before .before .before .before .before .before .before .before .before .before .before .before .before .before .before .before .before .loop .inv .0 .1
+same-length-4 c = ap (λ (x : Lengths). x .marks) (c .before .before .before .before .before .before .before .before .before .loop .inv .tables) ∙ c .before .before .before .before .before .before .before .before .before .before .before .before .before .before .before .before .before .before .before .before .before .before .before .before .before .before .before .before .before .before .before .before .before .before .before .before .begin .kept .1 .1 .0
 
 same-length-5 : tie.Need-same-length-5 Inv-loop μ-loop
-same-length-5 c = c .before .before .before .before .before .before .before .before .before .before .before .before .before .before .before .before .before .before .before .before .before .before .before .before .before .before .before .before .list-end .kept .1 .1 .1 .1 .1 .0 ∙ c .before .before .before .before .before .before .before .before .before .before .before .before .before .before .before .before .before .before .before .before .before .before .before .before .before .before .before .before .before .before .before .before .before .before .before .before .before .before .before .before .before .before .before .before .before .loop .inv .0 .2
+same-length-5 c = ap (λ (x : Lengths). x .from) (c .before .before .before .before .before .before .before .before .before .loop .inv .tables) ∙ c .before .before .before .before .before .before .before .before .before .before .before .before .before .before .before .before .before .before .before .before .before .before .before .before .before .before .before .before .before .before .before .before .before .before .before .before .begin .kept .1 .1 .1 .0
 
 same-length-6 : tie.Need-same-length-6 Inv-loop μ-loop
-same-length-6 c = c .before .before .before .before .before .before .before .before .before .before .before .before .before .before .before .before .before .before .before .before .before .before .before .before .before .before .before .before .list-end .kept .1 .1 .1 .1 .1 .1 .0 ∙ c .before .before .before .before .before .before .before .before .before .before .before .before .before .before .before .before .before .before .before .before .before .before .before .before .before .before .before .before .before .before .before .before .before .before .before .before .before .before .before .before .before .before .before .before .before .loop .inv .0 .3
+same-length-6 c = ap (λ (x : Lengths). x .to) (c .before .before .before .before .before .before .before .before .before .loop .inv .tables) ∙ c .before .before .before .before .before .before .before .before .before .before .before .before .before .before .before .before .before .before .before .before .before .before .before .before .before .before .before .before .before .before .before .before .before .before .before .before .begin .kept .1 .1 .1 .1 .0
 
 same-length-7 : tie.Need-same-length-7 Inv-loop μ-loop
-same-length-7 c = c .before .before .before .before .before .before .before .before .before .before .before .before .before .before .before .before .before .before .before .before .before .before .before .before .before .before .before .before .list-end .kept .1 .1 .1 .1 .1 .1 .1 .0 ∙ c .before .before .before .before .before .before .before .before .before .before .before .before .before .before .before .before .before .before .before .before .before .before .before .before .before .before .before .before .before .before .before .before .before .before .before .before .before .before .before .before .before .before .before .before .before .loop .inv .0 .4
+same-length-7 c = ap (λ (x : Lengths). x .successor) (c .before .before .before .before .before .before .before .before .before .loop .inv .tables) ∙ c .before .before .before .before .before .before .before .before .before .before .before .before .before .before .before .before .before .before .before .before .before .before .before .before .before .before .before .before .before .before .before .before .before .before .before .before .begin .kept .1 .1 .1 .1 .1 .0
 
 same-length-8 : tie.Need-same-length-8 Inv-loop μ-loop
-same-length-8 c = c .before .before .before .before .before .before .before .before .before .before .before .before .before .before .before .before .before .before .before .before .before .before .before .before .before .before .before .before .list-end .kept .1 .1 .1 .1 .1 .1 .1 .1 .0 ∙ c .before .before .before .before .before .before .before .before .before .before .before .before .before .before .before .before .before .before .before .before .before .before .before .before .before .before .before .before .before .before .before .before .before .before .before .before .before .before .before .before .before .before .before .before .before .loop .inv .0 .5
+same-length-8 c = ap (λ (x : Lengths). x .news) (c .before .before .before .before .before .before .before .before .before .loop .inv .tables) ∙ c .before .before .before .before .before .before .before .before .before .before .before .before .before .before .before .before .before .before .before .before .before .before .before .before .before .before .before .before .before .before .before .before .before .before .before .before .begin .kept .1 .1 .1 .1 .1 .1 .0
 
 same-length-9 : tie.Need-same-length-9 Inv-loop μ-loop
-same-length-9 c = c .before .before .before .before .before .before .before .before .before .before .before .before .before .before .before .before .before .before .before .before .before .before .before .before .before .before .before .before .list-end .kept .1 .1 .1 .1 .1 .1 .1 .1 .1 .0 ∙ c .before .before .before .before .before .before .before .before .before .before .before .before .before .before .before .before .before .before .before .before .before .before .before .before .before .before .before .before .before .before .before .before .before .before .before .before .before .before .before .before .before .before .before .before .before .loop .inv .0 .6
+same-length-9 c = ap (λ (x : Lengths). x .«in_head») (c .before .before .before .before .before .before .before .before .before .loop .inv .tables) ∙ c .before .before .before .before .before .before .before .before .before .before .before .before .before .before .before .before .before .before .before .before .before .before .before .before .before .before .before .before .before .before .before .before .before .before .before .before .begin .kept .1 .1 .1 .1 .1 .1 .1 .0
 
 same-length-10 : tie.Need-same-length-10 Inv-loop μ-loop
-same-length-10 c = c .before .before .before .before .before .before .before .before .before .before .before .before .before .before .before .before .before .before .before .before .before .before .before .before .before .before .before .before .list-end .kept .1 .1 .1 .1 .1 .1 .1 .1 .1 .1 .0 ∙ c .before .before .before .before .before .before .before .before .before .before .before .before .before .before .before .before .before .before .before .before .before .before .before .before .before .before .before .before .before .before .before .before .before .before .before .before .before .before .before .before .before .before .before .before .before .loop .inv .0 .7
+same-length-10 c = ap (λ (x : Lengths). x .«out_head») (c .before .before .before .before .before .before .before .before .before .loop .inv .tables) ∙ c .before .before .before .before .before .before .before .before .before .before .before .before .before .before .before .before .before .before .before .before .before .before .before .before .before .before .before .before .before .before .before .before .before .before .before .before .begin .kept .1 .1 .1 .1 .1 .1 .1 .1 .0
 
 same-length-11 : tie.Need-same-length-11 Inv-loop μ-loop
-same-length-11 c = c .before .before .before .before .before .before .before .before .before .before .before .before .before .before .before .before .before .before .before .before .before .before .before .before .before .before .before .before .list-end .kept .1 .1 .1 .1 .1 .1 .1 .1 .1 .1 .1 .0 ∙ c .before .before .before .before .before .before .before .before .before .before .before .before .before .before .before .before .before .before .before .before .before .before .before .before .before .before .before .before .before .before .before .before .before .before .before .before .before .before .before .before .before .before .before .before .before .loop .inv .0 .8
+same-length-11 c = ap (λ (x : Lengths). x .queue) (c .before .before .before .before .before .before .before .before .before .loop .inv .tables) ∙ c .before .before .before .before .before .before .before .before .before .before .before .before .before .before .before .before .before .before .before .before .before .before .before .before .before .before .before .before .before .before .before .before .before .before .before .before .begin .kept .1 .1 .1 .1 .1 .1 .1 .1 .1 .0
 
 same-length-12 : tie.Need-same-length-12 Inv-loop μ-loop
-same-length-12 c = c .before .before .before .before .before .before .before .before .before .before .before .before .before .before .before .before .before .before .before .before .before .before .before .before .before .before .before .before .list-end .kept .1 .1 .1 .1 .1 .1 .1 .1 .1 .1 .1 .1 .0 ∙ c .before .before .before .before .before .before .before .before .before .before .before .before .before .before .before .before .before .before .before .before .before .before .before .before .before .before .before .before .before .before .before .before .before .before .before .before .before .before .before .before .before .before .before .before .before .loop .inv .0 .9
+same-length-12 c = ap (λ (x : Lengths). x .visited) (c .before .before .before .before .before .before .before .before .before .loop .inv .tables) ∙ c .before .before .before .before .before .before .before .before .before .before .before .before .before .before .before .before .before .before .before .before .before .before .before .before .before .before .before .before .before .before .before .before .before .before .before .before .begin .kept .1 .1 .1 .1 .1 .1 .1 .1 .1 .1 .0
 
 same-length-13 : tie.Need-same-length-13 Inv-loop μ-loop
-same-length-13 c = c .before .before .before .before .before .before .before .before .before .before .before .before .before .before .before .before .before .before .before .before .before .before .before .before .before .before .before .before .list-end .kept .1 .1 .1 .1 .1 .1 .1 .1 .1 .1 .1 .1 .1 .0 ∙ c .before .before .before .before .before .before .before .before .before .before .before .before .before .before .before .before .before .before .before .before .before .before .before .before .before .before .before .before .before .before .before .before .before .before .before .before .before .before .before .before .before .before .before .before .before .loop .inv .0 .10
+same-length-13 c = ap (λ (x : Lengths). x .«in_next») (c .before .before .before .before .before .before .before .before .before .loop .inv .tables) ∙ c .before .before .before .before .before .before .before .before .before .before .before .before .before .before .before .before .before .before .before .before .before .before .before .before .before .before .before .before .before .before .before .before .before .before .before .before .begin .kept .1 .1 .1 .1 .1 .1 .1 .1 .1 .1 .1 .0
 
 same-length-14 : tie.Need-same-length-14 Inv-loop μ-loop
-same-length-14 c = c .before .before .before .before .before .before .before .before .before .before .before .before .before .before .before .before .before .before .before .before .before .before .before .before .before .before .before .before .list-end .kept .1 .1 .1 .1 .1 .1 .1 .1 .1 .1 .1 .1 .1 .1 .0 ∙ c .before .before .before .before .before .before .before .before .before .before .before .before .before .before .before .before .before .before .before .before .before .before .before .before .before .before .before .before .before .before .before .before .before .before .before .before .before .before .before .before .before .before .before .before .before .loop .inv .0 .11
+same-length-14 c = ap (λ (x : Lengths). x .«out_next») (c .before .before .before .before .before .before .before .before .before .loop .inv .tables) ∙ c .before .before .before .before .before .before .before .before .before .before .before .before .before .before .before .before .before .before .before .before .before .before .before .before .before .before .before .before .before .before .before .before .before .before .before .before .begin .kept .1 .1 .1 .1 .1 .1 .1 .1 .1 .1 .1 .1 .0
 
 returns : tie.Need-returns Inv-loop μ-loop
-returns c = tt
+returns c = turns-ended (c .before .before .before .before .before .before .before .before .before .loop .inv) (c .before .before .before .before .serve .ensures) (c .is-over .ensures)
+
+slice-reshare-prefix-list : tie.Need-slice-reshare-prefix-list Inv-loop μ-loop
+slice-reshare-prefix-list c = served-fits (c .before .before .before .before .before .serve .ensures) (c .before .served .given .1) (c .before .before .before .before .before .before .before .before .before .before .loop .inv .fits)
+
+slice-aggregate-list : tie.Need-slice-aggregate-list Inv-loop μ-loop
+slice-aggregate-list c = sym (length-take-le _ _ (served-fits (c .before .before .before .before .before .before .serve .ensures) (c .before .before .served .given .1) (c .before .before .before .before .before .before .before .before .before .before .before .loop .inv .fits)))
+
+list-requires : tie.Need-list-requires Inv-loop μ-loop
+list-requires c κs = search needs
+
+sub-turns : tie.Need-sub-turns Inv-loop μ-loop
+sub-turns c = omega (arith, c .before .before .before .before .before .before .before .before .before .before .before .before .before .before .before .before .before .before .before .before .before .before .before .before .before .before .before .before .before .before .before .before .before .before .before .before .before .before .before .before .before .before .before .before .before .before .before .before .before .before .loop-test .taken)
+
+loop-less : tie.Need-loop-less Inv-loop μ-loop
+loop-less c = omega (arith, c .before .before .before .before .before .before .before .before .before .before .before .before .before .before .before .before .before .before .before .before .before .before .before .before .before .before .before .before .before .before .before .before .before .before .before .before .before .before .before .before .before .before .before .before .before .before .before .before .before .before .loop-test .taken)
+
+loop-again : tie.Need-loop-again Inv-loop μ-loop
+loop-again c = turns-more (c .before .before .before .before .before .before .before .before .before .before .before .before .before .before .before .before .before .before .before .before .before .before .before .before .before .before .before .before .before .before .before .before .before .before .before .before .before .before .before .before .before .before .before .before .before .before .before .before .before .before .before .loop .inv) (c .before .before .before .before .before .before .before .before .before .before .before .before .before .before .before .before .before .before .before .before .before .before .before .before .before .before .before .before .before .before .before .before .before .before .before .before .before .before .before .before .before .before .before .before .before .before .serve .ensures) (c .before .before .before .before .before .before .before .before .before .before .before .before .before .before .before .before .before .before .before .before .before .before .before .before .before .before .before .before .before .before .before .before .before .before .before .before .before .before .before .before .before .before .served .given .1) (c .before .before .before .before .before .before .before .before .before .before .before .before .before .before .before .before .before .before .before .before .before .before .before .before .before .before .before .before .before .before .before .before .before .before .before .before .before .before .before .before .before .before .before .before .before .before .serve .kept .1 .1 .1 .1 .0) (c .before .before .before .before .before .before .before .before .before .before .before .before .before .before .before .before .before .before .before .before .before .before .before .before .before .before .list .ensures)
+
+same-length-15 : tie.Need-same-length-15 Inv-loop μ-loop
+same-length-15 c = c .before .loop .inv .inputs
+
+same-length-16 : tie.Need-same-length-16 Inv-loop μ-loop
+same-length-16 c = c .before .loop .inv .outputs ∙ c .before .before .before .before .before .before .before .before .before .before .before .before .before .before .before .before .before .before .before .before .before .before .before .before .before .before .before .before .begin .kept .0
+
+same-length-17 : tie.Need-same-length-17 Inv-loop μ-loop
+same-length-17 c = ap (λ (x : Lengths). x .status) (c .before .loop .inv .tables) ∙ c .before .before .before .before .before .before .before .before .before .before .before .before .before .before .before .before .before .before .before .before .before .before .before .before .before .before .before .before .begin .kept .1 .0
+
+same-length-18 : tie.Need-same-length-18 Inv-loop μ-loop
+same-length-18 c = ap (λ (x : Lengths). x .marks) (c .before .loop .inv .tables) ∙ c .before .before .before .before .before .before .before .before .before .before .before .before .before .before .before .before .before .before .before .before .before .before .before .before .before .before .before .before .begin .kept .1 .1 .0
+
+same-length-19 : tie.Need-same-length-19 Inv-loop μ-loop
+same-length-19 c = ap (λ (x : Lengths). x .from) (c .before .loop .inv .tables) ∙ c .before .before .before .before .before .before .before .before .before .before .before .before .before .before .before .before .before .before .before .before .before .before .before .before .before .before .before .before .begin .kept .1 .1 .1 .0
+
+same-length-20 : tie.Need-same-length-20 Inv-loop μ-loop
+same-length-20 c = ap (λ (x : Lengths). x .to) (c .before .loop .inv .tables) ∙ c .before .before .before .before .before .before .before .before .before .before .before .before .before .before .before .before .before .before .before .before .before .before .before .before .before .before .before .before .begin .kept .1 .1 .1 .1 .0
+
+same-length-21 : tie.Need-same-length-21 Inv-loop μ-loop
+same-length-21 c = ap (λ (x : Lengths). x .successor) (c .before .loop .inv .tables) ∙ c .before .before .before .before .before .before .before .before .before .before .before .before .before .before .before .before .before .before .before .before .before .before .before .before .before .before .before .before .begin .kept .1 .1 .1 .1 .1 .0
+
+same-length-22 : tie.Need-same-length-22 Inv-loop μ-loop
+same-length-22 c = ap (λ (x : Lengths). x .news) (c .before .loop .inv .tables) ∙ c .before .before .before .before .before .before .before .before .before .before .before .before .before .before .before .before .before .before .before .before .before .before .before .before .before .before .before .before .begin .kept .1 .1 .1 .1 .1 .1 .0
+
+same-length-23 : tie.Need-same-length-23 Inv-loop μ-loop
+same-length-23 c = ap (λ (x : Lengths). x .«in_head») (c .before .loop .inv .tables) ∙ c .before .before .before .before .before .before .before .before .before .before .before .before .before .before .before .before .before .before .before .before .before .before .before .before .before .before .before .before .begin .kept .1 .1 .1 .1 .1 .1 .1 .0
+
+same-length-24 : tie.Need-same-length-24 Inv-loop μ-loop
+same-length-24 c = ap (λ (x : Lengths). x .«out_head») (c .before .loop .inv .tables) ∙ c .before .before .before .before .before .before .before .before .before .before .before .before .before .before .before .before .before .before .before .before .before .before .before .before .before .before .before .before .begin .kept .1 .1 .1 .1 .1 .1 .1 .1 .0
+
+same-length-25 : tie.Need-same-length-25 Inv-loop μ-loop
+same-length-25 c = ap (λ (x : Lengths). x .queue) (c .before .loop .inv .tables) ∙ c .before .before .before .before .before .before .before .before .before .before .before .before .before .before .before .before .before .before .before .before .before .before .before .before .before .before .before .before .begin .kept .1 .1 .1 .1 .1 .1 .1 .1 .1 .0
+
+same-length-26 : tie.Need-same-length-26 Inv-loop μ-loop
+same-length-26 c = ap (λ (x : Lengths). x .visited) (c .before .loop .inv .tables) ∙ c .before .before .before .before .before .before .before .before .before .before .before .before .before .before .before .before .before .before .before .before .before .before .before .before .before .before .before .before .begin .kept .1 .1 .1 .1 .1 .1 .1 .1 .1 .1 .0
+
+same-length-27 : tie.Need-same-length-27 Inv-loop μ-loop
+same-length-27 c = ap (λ (x : Lengths). x .«in_next») (c .before .loop .inv .tables) ∙ c .before .before .before .before .before .before .before .before .before .before .before .before .before .before .before .before .before .before .before .before .before .before .before .before .before .before .before .before .begin .kept .1 .1 .1 .1 .1 .1 .1 .1 .1 .1 .1 .0
+
+same-length-28 : tie.Need-same-length-28 Inv-loop μ-loop
+same-length-28 c = ap (λ (x : Lengths). x .«out_next») (c .before .loop .inv .tables) ∙ c .before .before .before .before .before .before .before .before .before .before .before .before .before .before .before .before .before .before .before .before .before .before .before .before .before .before .before .before .begin .kept .1 .1 .1 .1 .1 .1 .1 .1 .1 .1 .1 .1 .0
+
+returns-2 : tie.Need-returns-2 Inv-loop μ-loop
+returns-2 c = turns-up (c .before .loop .inv)
 
 pub list-input-spec : {M : Type 1} → statement M
 list-input-spec =
@@ -155,22 +151,12 @@ list-input-spec =
     (tie.spec
     Inv-loop
     μ-loop
-    put-header-requires
-    start-requires
+    begin-requires
     loop-holds
-    read-requires
-    count-requires
-    slice-reshare-prefix-list-piece
-    slice-aggregate-list-piece
-    list-piece-requires
-    sub-pieces
-    loop-less
-    loop-again
-    with-room-requires
-    list-end-requires
-    slice-reshare-prefix-write-all
-    slice-aggregate-write-all
-    write-all-requires
+    slice-aggregate-serve
+    serve-requires
+    enum-known-served
+    is-over-requires
     same-length
     same-length-2
     same-length-3
@@ -185,4 +171,25 @@ list-input-spec =
     same-length-12
     same-length-13
     same-length-14
-    returns)
+    returns
+    slice-reshare-prefix-list
+    slice-aggregate-list
+    list-requires
+    sub-turns
+    loop-less
+    loop-again
+    same-length-15
+    same-length-16
+    same-length-17
+    same-length-18
+    same-length-19
+    same-length-20
+    same-length-21
+    same-length-22
+    same-length-23
+    same-length-24
+    same-length-25
+    same-length-26
+    same-length-27
+    same-length-28
+    returns-2)

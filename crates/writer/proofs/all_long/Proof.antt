@@ -1,7 +1,6 @@
 -- `all_long` meets its contract.
 -- Assumes nothing.
-use Rattle.writer.proofs.Deciding.{and-last}
-use lib.Dec.{leb}
+use mathlib.Core.Bool.{and-true}
 use borrow.Author.Tests.{le-leb, lt-leb}
 use Rattle.writer.proofs.all_long.Statement.{statement}
 use Rattle.writer.proofs.all_long.Tie as tie
@@ -13,9 +12,7 @@ returns-2 : tie.Need-returns-2
 returns-2 c = rw (le-leb _ _ (c .before .before .if1 .left), lt-leb _ _ (c .if2 .taken))
 
 returns-3 : tie.Need-returns-3
-returns-3 c =
-    let a = c .before .before .before .before .before .args in
-    rw (le-leb _ _ (c .before .before .before .if1 .left), le-leb _ _ (c .before .if2 .left)) (and-last (leb (a .graph .limit) (a .to)))
+returns-3 c = rw (le-leb _ _ (c .before .before .before .if1 .left), le-leb _ _ (c .before .if2 .left), and-true)
 
 pub all-long-spec : {M : Type 1} → statement M
 all-long-spec = tie.close (tie.spec returns returns-2 returns-3)

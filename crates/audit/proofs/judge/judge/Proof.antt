@@ -4,8 +4,8 @@ use mathlib.Core.Bool.{false≢true}
 use mathlib.Core.Path.{sym, _∙_}
 use native.Mathlib.Omega.{arith}
 use borrow.Author.Needs.{needs}
-use Rattle.search.proofs.Counting.{kept-none, kept-trans}
-use Rattle.engine.specs.Done.{tablesOf}
+use Rattle.tables.proofs.Keeping.{kept-none, kept-trans}
+use Rattle.tables.specs.Tables.{tablesOf}
 use Rattle.audit.proofs.Judging.{none-visited, ends-below, denied, judged}
 use Rattle.audit.proofs.judge.judge.Statement.{statement}
 use Rattle.audit.proofs.judge.judge.Tie as tie
@@ -20,8 +20,8 @@ list-fits-requires : tie.Need-list-fits-requires
 list-fits-requires c κs =
     let atStart = c .before .before .before .before .before .before .before .before .before .before .before .before .before .before .before .before .before in
     let a = atStart .args in
-    let p = atStart .pre in
-    ((p .steps, p .to, p .inHead, p .inNext, p .queue), ends-below (a .n) (a .steps) (a .status .now) (a .marks .now) (a .from .now) (a .to .now) (c .before .before .steps-fit .ensures .0 (c .before .if2 .taken)) .1)
+    let p = atStart .pre .1 in
+    ((atStart .pre .0 .1, p .to, p .inHead, p .inNext, p .queue), ends-below (a .n) (a .steps) (a .status .now) (a .marks .now) (a .from .now) (a .to .now) (c .before .before .steps-fit .ensures .0 (c .before .if2 .taken)) .1)
 
 list-fits-requires-2 : tie.Need-list-fits-requires-2
 list-fits-requires-2 c κs =
@@ -30,8 +30,8 @@ list-fits-requires-2 c κs =
     let atStepsFit = atIf2 .before in
     let atStart = atStepsFit .before .before .before .before .before .before .before .before .before .before .before .before .before .before .before in
     let a = atStart .args in
-    let p = atStart .pre in
-    ((p .steps, p .from, p .outHead, p .outNext, omega (arith, p .queue, atListFits .list-fits .ensures .kept .size)), ends-below (a .n) (a .steps) (a .status .now) (a .marks .now) (a .from .now) (a .to .now) (atStepsFit .steps-fit .ensures .0 (atIf2 .if2 .taken)) .0)
+    let p = atStart .pre .1 in
+    ((atStart .pre .0 .1, p .from, p .outHead, p .outNext, omega (arith, p .queue, atListFits .list-fits .ensures .kept .size)), ends-below (a .n) (a .steps) (a .status .now) (a .marks .now) (a .from .now) (a .to .now) (atStepsFit .steps-fit .ensures .0 (atIf2 .if2 .taken)) .0)
 
 claims-fit-requires : tie.Need-claims-fit-requires
 claims-fit-requires c κs =
@@ -41,9 +41,9 @@ claims-fit-requires c κs =
     let atStatesFit = atIf1 .before in
     let atStart = atStatesFit .before .before .before .before .before .before .before .before .before .before .before .before .before in
     let a = atStart .args in
-    let p = atStart .pre in
+    let p = atStart .pre .1 in
     let none = none-visited (a .n) (a .steps) (a .status .now) (a .marks .now) (a .from .now) (a .successor .now) (a .in-head .now) (a .out-head .now) (a .visited .now) (atStatesFit .states-fit .ensures .0 (atIf1 .if1 .taken)) in
-    ((p .states, none), (record { few = p .steps; heads = p .inHead; nexts = p .inNext; ends′ = p .from }, (p .status, p .marks, p .successor, omega (arith, p .queue, atListFits .list-fits .ensures .kept .size, atListFits2 .list-fits2 .ensures .kept .size), p .visited)))
+    ((atStart .pre .0 .0, none), (record { few = atStart .pre .0 .1; heads = p .inHead; nexts = p .inNext; ends′ = p .from }, (p .status, p .marks, p .successor, omega (arith, p .queue, atListFits .list-fits .ensures .kept .size, atListFits2 .list-fits2 .ensures .kept .size), p .visited)))
 
 same-length : tie.Need-same-length
 same-length c = search needs

@@ -2,6 +2,7 @@
 -- Assumes nothing.
 use native.Mathlib.Omega.{arith}
 use borrow.Author.Tests.{eq-eqb, ne-eqb, le-leb, lt-leb}
+use borrow.Author.Needs.{needs}
 use Rattle.audit.specs.Facts.{suits}
 use Rattle.audit.proofs.states.suits.Statement.{statement}
 use Rattle.audit.proofs.states.suits.Tie as tie
@@ -34,15 +35,19 @@ returns-5 c =
     let high = lt-leb (atStart .args .mark) 7 (omega (arith, c .if6 .taken)) in
     simp (ne-eqb _ _ (atIf1 .if1 .left), ne-eqb _ _ (atIf2 .if2 .left), ne-eqb _ _ (atIf3 .if3 .left), ne-eqb _ _ (c .before .before .if4 .left), eq-eqb _ _ (c .before .if5 .taken), high)
 
+has-named-requires : tie.Need-has-named-requires
+has-named-requires c κs = search needs
+
 returns-6 : tie.Need-returns-6
 unfolding suits
 returns-6 c =
-    let atIf3 = c .before .before .before in
+    let atIf6 = c .before in
+    let atIf3 = atIf6 .before .before .before in
     let atIf2 = atIf3 .before in
     let atIf1 = atIf2 .before in
     let atStart = atIf1 .before in
-    let low = le-leb (atStart .args .mark) 7 (omega (arith, c .if6 .left)) in
-    simp (ne-eqb _ _ (atIf1 .if1 .left), ne-eqb _ _ (atIf2 .if2 .left), ne-eqb _ _ (atIf3 .if3 .left), ne-eqb _ _ (c .before .before .if4 .left), eq-eqb _ _ (c .before .if5 .taken), low)
+    let low = le-leb (atStart .args .mark) 7 (omega (arith, atIf6 .if6 .left)) in
+    simp (ne-eqb _ _ (atIf1 .if1 .left), ne-eqb _ _ (atIf2 .if2 .left), ne-eqb _ _ (atIf3 .if3 .left), ne-eqb _ _ (atIf6 .before .before .if4 .left), eq-eqb _ _ (atIf6 .before .if5 .taken), low) (c .has-named .ensures)
 
 returns-7 : tie.Need-returns-7
 unfolding suits
@@ -53,4 +58,5 @@ returns-7 c =
 
 pub suits-spec : {M : Type 1} → statement M
 suits-spec =
-    tie.close (tie.spec returns returns-2 returns-3 returns-4 returns-5 returns-6 returns-7)
+    tie.close
+    (tie.spec returns returns-2 returns-3 returns-4 returns-5 has-named-requires returns-6 returns-7)

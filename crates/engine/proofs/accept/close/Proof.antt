@@ -7,7 +7,7 @@ use borrow.Author.Needs.{needs}
 use Rattle.tables.specs.Marks.{withClosed}
 use Rattle.search.specs.Spreading.{arcs}
 use Rattle.search.proofs.Walking.{linked-inside}
-use Rattle.engine.specs.Written.{lives, nears, sweeps}
+use Rattle.engine.specs.Searches.{lives, nears, sweeps}
 use Rattle.engine.proofs.Acting.{marks-then, escape-found}
 use Rattle.engine.proofs.accept.close.Statement.{statement}
 use Rattle.engine.proofs.accept.close.Tie as tie
@@ -28,10 +28,10 @@ slice-read-if1 : tie.Need-slice-read-if1
 slice-read-if1 c = search needs
 
 same-length : tie.Need-same-length
-same-length c = search needs
+same-length c = c .before .before .before .before .before .before .before .before .name .kept .0
 
 same-length-2 : tie.Need-same-length-2
-same-length-2 c = search needs
+same-length-2 c = simp length-set (c .before .before .before .before .before .before .before .before .name .kept .1 .0)
 
 returns : tie.Need-returns
 returns c =
@@ -74,13 +74,13 @@ slice-write-successor c =
     let p = start .pre in omega (arith, p .0, p .1 .1 .1 .0)
 
 same-length-3 : tie.Need-same-length-3
-same-length-3 c = search needs
+same-length-3 c = simp length-set (c .before .before .before .before .before .before .before .before .before .before .before .before .name .kept .0)
 
 same-length-4 : tie.Need-same-length-4
-same-length-4 c = search needs
+same-length-4 c = simp length-set (c .before .before .before .before .before .before .before .before .before .before .before .before .name .kept .1 .0)
 
 same-length-5 : tie.Need-same-length-5
-same-length-5 c = search needs
+same-length-5 c = simp length-set
 
 returns-2 : tie.Need-returns-2
 returns-2 c =
@@ -108,19 +108,19 @@ same-length-6 c =
     simp length-set (c .before .before .before .before .before .before .before .before .before .before .before .before .before .before .before .before .before .before .before .before .before .before .before .before .before .before .before .before .name .kept .0)
 
 same-length-7 : tie.Need-same-length-7
-same-length-7 c = search needs
+same-length-7 c = simp length-set (c .before .before .before .before .before .before .before .before .before .before .before .before .before .before .before .before .before .before .before .before .before .before .before .before .before .before .before .before .name .kept .1 .0)
 
 same-length-8 : tie.Need-same-length-8
-same-length-8 c = search needs
+same-length-8 c = c .before .before .before .before .before .before .before .before .before .before .find-dead .kept .1 .1 .1 .1 .1 .1 .0
 
 same-length-9 : tie.Need-same-length-9
-same-length-9 c = search needs
+same-length-9 c = c .before .before .before .before .before .before .before .before .before .before .find-dead .kept .1 .1 .1 .1 .1 .1 .1 .0
 
 same-length-10 : tie.Need-same-length-10
-same-length-10 c = search needs
+same-length-10 c = c .before .before .before .before .before .before .before .before .before .before .find-dead .kept .1 .1 .1 .1 .1 .1 .1 .1 .1 .1 .0
 
 same-length-11 : tie.Need-same-length-11
-same-length-11 c = search needs
+same-length-11 c = c .before .before .before .before .before .before .before .before .before .before .find-dead .kept .1 .1 .1 .1 .1 .1 .1 .1 .1 .1 .1 .0
 
 returns-3 : tie.Need-returns-3
 returns-3 c =

@@ -46,13 +46,17 @@ settle-requires c κs =
     (omega (arith, h, l .0), omega (arith, h, l .0, r .successors .size, d .successors .size), omega (arith, h, l .0), omega (arith, h, l .1, r .visits .size, d .visits .size, s .visits .size), omega (arith, h, p .0))
 
 same-length : tie.Need-same-length
-same-length c = search needs
+same-length c = c .before .before .before .before .before .before .before .before .settle .kept .1 .1 .0
 
 same-length-2 : tie.Need-same-length-2
-same-length-2 c = search needs
+same-length-2 c =
+    let at-settle = c .before .before .before .before .before .before .before .before in
+    let at-rescue = at-settle .before .before .before .before .before .before .before .before .before .before .before in
+    let at-escapes = at-rescue .before .before .before .before .before .before .before .before .before .before in
+    at-settle .settle .kept .1 .1 .1 .0 ∙ at-rescue .rescue .kept .1 .1 .1 .1 .1 .1 .0 ∙ at-escapes .escapes .kept .1 .1 .1 .1 .1 .1 .1 .0
 
 same-length-3 : tie.Need-same-length-3
-same-length-3 c = search needs
+same-length-3 c = c .before .before .before .before .before .before .before .before .settle .kept .1 .1 .1 .1 .0
 
 same-length-4 : tie.Need-same-length-4
 same-length-4 c =

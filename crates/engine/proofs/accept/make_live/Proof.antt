@@ -1,9 +1,9 @@
 -- `make_live` does nothing where the state is live; otherwise it spreads life and settles it.
 -- Assumes nothing.
-use mathlib.Core.Path.{refl}
+use mathlib.Core.Path.{refl, _∙_}
 use native.Mathlib.Omega.{arith}
 use borrow.Author.Needs.{needs}
-use Rattle.engine.specs.Written.{already, revives}
+use Rattle.engine.specs.Searches.{already, revives}
 use Rattle.engine.proofs.accept.make_live.Statement.{statement}
 use Rattle.engine.proofs.accept.make_live.Tie as tie
 
@@ -26,19 +26,21 @@ settle-requires c κs =
     (omega (arith, h, p .1 .1 .0), omega (arith, h, p .1 .1 .0), omega (arith, h, p .1 .1 .0), omega (arith, h, p .1 .1 .1, s .visits .size), omega (arith, h, p .0))
 
 same-length : tie.Need-same-length
-same-length c = search needs
+same-length c = c .before .before .before .before .before .before .before .before .settle .kept .1 .1 .0
 
 same-length-2 : tie.Need-same-length-2
-same-length-2 c = search needs
+same-length-2 c = c .before .before .before .before .before .before .before .before .settle .kept .1 .1 .1 .0
 
 same-length-3 : tie.Need-same-length-3
-same-length-3 c = search needs
+same-length-3 c = c .before .before .before .before .before .before .before .before .settle .kept .1 .1 .1 .1 .0
 
 same-length-4 : tie.Need-same-length-4
-same-length-4 c = search needs
+same-length-4 c = c .before .before .before .before .before .before .before .before .before .before .before .before .before .before .before .before .before .spread .kept .1 .1 .1 .1 .1 .1 .1 .1 .1 .0
 
 same-length-5 : tie.Need-same-length-5
-same-length-5 c = search needs
+same-length-5 c =
+    let at-settle = c .before .before .before .before .before .before .before .before in
+    at-settle .settle .kept .1 .1 .1 .1 .1 .0 ∙ at-settle .before .before .before .before .before .before .before .before .before .spread .kept .1 .1 .1 .1 .1 .1 .1 .1 .1 .1 .0
 
 returns-2 : tie.Need-returns-2
 returns-2 c =

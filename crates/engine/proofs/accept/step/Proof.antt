@@ -1,9 +1,9 @@
 -- `step` names both ends and joins them.
 -- Assumes nothing.
-use mathlib.Core.Path.{refl}
+use mathlib.Core.Path.{refl, _∙_}
 use native.Mathlib.Omega.{arith}
 use borrow.Author.Needs.{needs}
-use Rattle.engine.specs.Written.{apart, joins}
+use Rattle.engine.specs.Searches.{apart, joins}
 use Rattle.engine.proofs.Acting.{marks-both, names-both}
 use Rattle.engine.proofs.accept.step.Statement.{statement}
 use Rattle.engine.proofs.accept.step.Tie as tie
@@ -28,22 +28,29 @@ make-live-requires c κs =
     ((p .0 .0, p .0 .2), (p .1 .0, ((omega (arith, p .1 .1 .0 .0, s, t), p .1 .1 .0 .2, p .1 .1 .0 .3), p .1 .1 .1)))
 
 same-length : tie.Need-same-length
-same-length c = search needs
+same-length c =
+    let at-make-live = c .before .before .before .before .before .before .before .before .before .before in
+    let at-name2 = at-make-live .before .before .before .before .before .before .before .before .before .before .before .before in
+    let at-name = at-name2 .before .before .before .before .before .before .before in
+    at-make-live .make-live .kept .1 .1 .1 .0 ∙ at-name2 .name2 .kept .0 ∙ at-name .name .kept .0
 
 same-length-2 : tie.Need-same-length-2
-same-length-2 c = search needs
+same-length-2 c =
+    let at-name2 = c .before .before .before .before .before .before .before .before .before .before .before .before .before .before .before .before .before .before .before .before .before .before in
+    let at-name = at-name2 .before .before .before .before .before .before .before in
+    at-name2 .name2 .kept .1 .0 ∙ at-name .name .kept .1 .0
 
 same-length-3 : tie.Need-same-length-3
-same-length-3 c = search needs
+same-length-3 c = c .before .before .before .before .before .before .before .before .before .before .make-live .kept .1 .1 .1 .1 .1 .0
 
 same-length-4 : tie.Need-same-length-4
-same-length-4 c = search needs
+same-length-4 c = c .before .before .before .before .before .before .before .before .before .before .make-live .kept .1 .1 .1 .1 .1 .1 .0
 
 same-length-5 : tie.Need-same-length-5
-same-length-5 c = search needs
+same-length-5 c = c .before .before .before .before .before .before .before .before .before .before .make-live .kept .1 .1 .1 .1 .1 .1 .1 .1 .0
 
 same-length-6 : tie.Need-same-length-6
-same-length-6 c = search needs
+same-length-6 c = c .before .before .before .before .before .before .before .before .before .before .make-live .kept .1 .1 .1 .1 .1 .1 .1 .1 .1 .0
 
 returns : tie.Need-returns
 returns c =
@@ -58,10 +65,16 @@ returns c =
     (marks-both (a .marks .now) (a .u) (a .v) (f .1) (g .1), rw (← names-both (a .status .now) (a .u) (a .v) (f .0) (g .0)) (joins (at-if1 .if1 .taken) (at-make-live .make-live .ensures)))
 
 same-length-7 : tie.Need-same-length-7
-same-length-7 c = search needs
+same-length-7 c =
+    let at-name2 = c .before .before .before .before .before .before in
+    let at-name = at-name2 .before .before .before .before .before .before .before in
+    at-name2 .name2 .kept .0 ∙ at-name .name .kept .0
 
 same-length-8 : tie.Need-same-length-8
-same-length-8 c = search needs
+same-length-8 c =
+    let at-name2 = c .before .before .before .before .before .before in
+    let at-name = at-name2 .before .before .before .before .before .before .before in
+    at-name2 .name2 .kept .1 .0 ∙ at-name .name .kept .1 .0
 
 returns-2 : tie.Need-returns-2
 returns-2 c =

@@ -1,8 +1,6 @@
 -- `put_picture` meets its contract.
 -- Assumes nothing.
-use Prim.Native.Nat.{ℕ}
 use native.Mathlib.Omega.{arith}
-use mathlib.Core.Path.{_∙_}
 use lib.ListN.{getD}
 use borrow.Author.Needs.{needs}
 use Rattle.picture.proofs.Drawing.{drawn}

@@ -2,7 +2,7 @@
 -- Assumes nothing.
 use native.Mathlib.Omega.{arith}
 use borrow.Author.Tests.{ne-eqb}
-use Rattle.report.proofs.Placing.{placed-none}
+use Rattle.record.proofs.Placing.{placed-none}
 use borrow.Author.Needs.{needs}
 use Rattle.picture.proofs.text.put_state.Statement.{statement}
 use Rattle.picture.proofs.text.put_state.Tie as tie

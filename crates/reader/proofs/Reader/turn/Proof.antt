@@ -1,5 +1,9 @@
+-- `turn` feeds the bytes up to the end of a line and makes the line's update, if it is one.
+-- Assumes nothing.
+use mathlib.Core.Path.{ap}
 use Rattle.record.specs.declared.splitter.Advanced.{Advanced}
-use mathlib.Core.Path.{_≡_, refl, sym, _∙_, ap}
+use Rattle.reader.specs.Turning.{sent}
+use Rattle.reader.proofs.Following.{came-as, came-other}
 use borrow.Author.Needs.{needs}
 use Rattle.reader.proofs.Reader.turn.Statement.{statement}
 use Rattle.reader.proofs.Reader.turn.Tie as tie
@@ -7,8 +11,17 @@ use Rattle.reader.proofs.Reader.turn.Tie as tie
 feed-line-requires : tie.Need-feed-line-requires
 feed-line-requires c κs = search needs
 
-apply-requires : tie.Need-apply-requires
-apply-requires c κs = search needs
+enum-known-item : tie.Need-enum-known-item
+enum-known-item c = search needs
+
+update-requires : tie.Need-update-requires
+update-requires c κs = search needs
+
+line-answer-requires : tie.Need-line-answer-requires
+line-answer-requires c κs = search needs
+
+item-answer-requires : tie.Need-item-answer-requires
+item-answer-requires c κs = search needs
 
 same-length : tie.Need-same-length
 same-length c = search needs
@@ -47,14 +60,30 @@ same-length-12 : tie.Need-same-length-12
 same-length-12 c = search needs
 
 returns : tie.Need-returns
-returns c = (ap (λ (f : Advanced). f .next) (c .before .before .before .before .before .before .before .before .before .before .before .before .before .before .before .before .before .before .before .before .before .before .before .before .before .before .before .before .before .before .before .before .before .before .before .before .before .before .before .before .feed-line .ensures), ap (λ (f : Advanced). f .splitter) (c .before .before .before .before .before .before .before .before .before .before .before .before .before .before .before .before .before .before .before .before .before .before .before .before .before .before .before .before .before .before .before .before .before .before .before .before .before .before .before .before .feed-line .ensures), rw (ap (λ (f : Advanced). f .answer) (c .before .before .before .before .before .before .before .before .before .before .before .before .before .before .before .before .before .before .before .before .before .before .before .before .before .before .before .before .before .before .before .before .before .before .before .before .before .before .before .before .feed-line .ensures)) at (c .before .before .before .before .before .before .before .before .before .before .before .before .before .before .before .before .before .before .before .before .before .before .before .before .before .apply .ensures))
+returns c =
+    let f = c .before .before .before .before .before .before .before .before .before .before .before .before .before .before .before .before .before .before .before .before .before .before .before .before .before .before .before .before .before .before .before .before .before .before .before .before .before .before .before .before .before .before .before .before .feed-line .ensures in (
+      ap (λ (x : Advanced). x .next) f,
+      ap (λ (x : Advanced). x .splitter) f,
+      came-as (ap (λ (x : Advanced). x .item) f) (rw (c .before .before .before .before .before .before .before .before .before .before .before .before .before .before .before .before .before .before .before .before .before .before .before .before .before .before .before .before .before .before .before .before .before .before .before .before .before .before .before .before .item .given .1) (sent (c .before .before .before .before .before .before .before .before .before .before .before .before .before .before .before .before .before .before .before .before .before .before .before .before .before .before .update .ensures) (c .line-answer .ensures))),
+    )
+
+returns-2 : tie.Need-returns-2
+returns-2 c =
+    let f = c .before .before .before .before .feed-line .ensures in (
+      ap (λ (x : Advanced). x .next) f,
+      ap (λ (x : Advanced). x .splitter) f,
+      came-as (ap (λ (x : Advanced). x .item) f) (rw (c .item-answer .ensures) (came-other (c .before .before .before .before .feed-line .result .item) (c .before .match .keys2))),
+    )
 
 pub turn-spec : {M : Type 1} → statement M
 turn-spec =
     tie.close
     (tie.spec
     feed-line-requires
-    apply-requires
+    enum-known-item
+    update-requires
+    line-answer-requires
+    item-answer-requires
     same-length
     same-length-2
     same-length-3
@@ -67,4 +96,5 @@ turn-spec =
     same-length-10
     same-length-11
     same-length-12
-    returns)
+    returns
+    returns-2)

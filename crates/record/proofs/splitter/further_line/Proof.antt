@@ -1,6 +1,6 @@
 -- `further_line` meets its contract.
 -- Assumes nothing.
-use Rattle.record.proofs.Splitting.{answered-item}
+use Rattle.record.proofs.Splitting.{parsed-item}
 use Rattle.record.specs.Splitting.{afterFurther}
 use Rattle.record.specs.Buffer.{lineIn}
 use borrow.Author.Tests.{le-leb, lt-leb}
@@ -24,12 +24,12 @@ add-t8 c = search needs
 parse-requires : tie.Need-parse-requires
 parse-requires c κs = search needs
 
-answer-of-requires : tie.Need-answer-of-requires
-answer-of-requires c κs = search needs
+item-of-requires : tie.Need-item-of-requires
+item-of-requires c κs = search needs
 
 returns-2 : tie.Need-returns-2
 unfolding afterFurther
-returns-2 c = rw (le-leb (c .before .before .before .before .args .number) 65535 (c .before .before .before .if1 .left), c .before .before .empty2 .ensures, c .answer-of .ensures, c .before .parse .ensures, answered-item (lineIn (c .before .before .before .before .args .line)) (c .before .before .before .before .args .number))
+returns-2 c = rw (le-leb (c .before .before .before .before .args .number) 65535 (c .before .before .before .if1 .left), c .before .before .empty2 .ensures, c .item-of .ensures, c .before .parse .ensures, parsed-item (lineIn (c .before .before .before .before .args .line)) (c .before .before .before .before .args .number))
 
 pub further-line-spec : {M : Type 1} → statement M
 further-line-spec =
@@ -40,5 +40,5 @@ further-line-spec =
     empty-requires-2
     add-t8
     parse-requires
-    answer-of-requires
+    item-of-requires
     returns-2)

@@ -1,7 +1,7 @@
 -- `put_ending` meets its contract.
 -- Assumes nothing.
 use native.Mathlib.Omega.{arith}
-use Rattle.report.proofs.Placing.{placed-then, placed-byte}
+use Rattle.record.proofs.Placing.{placed-then, placed-byte}
 use Rattle.record.proofs.Decimals.{five-digits}
 use Rattle.record.specs.Text.{decimal}
 use Rattle.report.specs.Texts.{ending}

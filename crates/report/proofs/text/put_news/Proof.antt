@@ -1,12 +1,13 @@
 -- `put_news` meets its contract.
 -- Assumes nothing.
 use native.Mathlib.Omega.{arith}
-use Rattle.report.proofs.Placing.{placed-none, news-then, news-few}
+use Rattle.record.proofs.Placing.{placed-none}
+use Rattle.report.proofs.Placing.{news-then, news-few}
 use Prim.Native.Nat.{ℕ, _+_, _*_, _-_, _≤_, _<_}
 use mathlib.Core.Path.{_≡_, refl, _∙_, subst}
-use mathlib.Core.List.{List, []}
-use lib.ListN.{length, getD, take, length-take}
-use lib.Seq.{length-take-le, getD-take, take-all}
+use mathlib.Core.List.{List}
+use lib.ListN.{length, getD, take}
+use lib.Seq.{take-all}
 use Rattle.record.specs.Text.{WroteAt}
 use Rattle.report.specs.Texts.{newsText}
 use Rattle.report.proofs.text.put_news.Statement.{statement}

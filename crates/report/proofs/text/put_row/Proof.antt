@@ -1,7 +1,8 @@
 -- `put_row` meets its contract.
 -- Assumes nothing.
 use native.Mathlib.Omega.{arith}
-use Rattle.report.proofs.Placing.{placed-then, ending-room}
+use Rattle.record.proofs.Placing.{placed-then}
+use Rattle.report.proofs.Placing.{ending-room}
 use Rattle.record.proofs.Decimals.{five-digits}
 use Rattle.record.specs.Text.{decimal}
 use Rattle.report.specs.Texts.{ending, row}

@@ -2,8 +2,8 @@
 -- Assumes nothing.
 use native.Mathlib.Omega.{arith}
 use Rattle.report.proofs.Placing.{none-below, counted, counted-fits}
-use Prim.Native.Nat.{ℕ, _+_, _-_, _≤_, _<_}
-use mathlib.Core.Path.{_≡_, refl, sym, _∙_}
+use Prim.Native.Nat.{ℕ, _-_, _≤_}
+use mathlib.Core.Path.{_≡_, refl, sym}
 use lib.ListN.{getD}
 use Rattle.report.specs.Texts.{having}
 use Rattle.report.proofs.totals.count.Statement.{statement}

@@ -1,5 +1,5 @@
 use mathlib.Core.Path.{sym, _∙_}
-use borrow.Author.Tests.{eq-eqb, ne-eqb, le-leb, lt-leb}
+use borrow.Author.Tests.{le-leb, lt-leb}
 use borrow.Author.Tests.{le-leb, lt-leb}
 use Rattle.tables.specs.Refused.{sentNumber}
 use borrow.Author.Needs.{needs}

@@ -1,7 +1,7 @@
 use lib.Dec.{leb}
 use lib.ListN.{length}
 use native.Mathlib.Omega.{arith}
-use mathlib.Core.Path.{_≡_, sym, _∙_}
+use mathlib.Core.Path.{sym, _∙_}
 use borrow.Author.Tests.{le-leb, lt-leb, leb-true}
 use Rattle.tables.proofs.Refusing.{lent-leaves, status-refused, status-range, status-byte}
 use borrow.Author.Needs.{needs}

@@ -5,7 +5,7 @@ use Rattle.writer.specs.Order.{lineBytes, bytesOf}
 use Rattle.gid.specs.declared.Update.{Update}
 use lib.ListN.{length}
 use native.Mathlib.Omega.{arith}
-use Rattle.writer.proofs.Places.{nothing-at}
+use Rattle.record.proofs.Placing.{placed-none}
 use Rattle.writer.proofs.Bytes.{line-size, no-line}
 use mathlib.Core.Path.{_≡_, sym, _∙_, ap}
 use borrow.Author.Needs.{needs}
@@ -35,7 +35,7 @@ returns c =
 returns-2 : tie.Need-returns-2
 returns-2 c =
     let a = c .before .before .before .args in
-    rw (no-line (a .mark) (a .byte) (a .state) (sym (c .before .has .ensures) ∙ c .if1 .left)) (nothing-at (a .at) (a .buf .now))
+    rw (no-line (a .mark) (a .byte) (a .state) (sym (c .before .has .ensures) ∙ c .if1 .left)) (placed-none (a .at) (a .buf .now))
 
 pub put-marked-spec : {M : Type 1} → statement M
 put-marked-spec =

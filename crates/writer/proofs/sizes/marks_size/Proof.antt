@@ -1,7 +1,7 @@
 -- `marks_size` meets its contract.
 -- Assumes nothing.
-use Rattle.writer.proofs.Bytes.{marked-none, marked-size, mark-bound}
-use Rattle.writer.specs.Order.{markedLines, bytesOf}
+use Rattle.writer.proofs.Bytes.{order-none, order-size, mark-bound}
+use Rattle.writer.specs.Order.{marking, isMarked, markedLines, bytesOf}
 use lib.ListN.{length, getD}
 use Prim.Native.Nat.{_≤_, _*_, _-_}
 use native.Mathlib.Omega.{arith}
@@ -16,7 +16,7 @@ abbrev μ-loop : tie.MeasureT-loop
 μ-loop mark n marks size₀ s₀ size s = n - s
 
 loop-holds : tie.Need-loop-holds Inv-loop μ-loop
-loop-holds c = (omega arith, ap length (sym (marked-none (c .before .args .mark) (c .before .args .marks .now))), omega arith)
+loop-holds c = (omega arith, ap length (sym (order-none _ _)), omega arith)
 
 shared-slice-read-mark-size : tie.Need-shared-slice-read-mark-size Inv-loop μ-loop
 shared-slice-read-mark-size c = omega arith
@@ -41,7 +41,7 @@ loop-again c =
     let a = c .before .before .before .before .before .args in
     let i = c .before .before .before .loop .s in
     let e = c .mark-size .ensures in
-    (omega arith, omega (arith, marked-size (a .mark) i (a .marks .now)), omega (arith, mark-bound (a .mark) (getD (a .marks .now) i 0) i (omega arith)))
+    (omega arith, omega (arith, order-size (isMarked (a .mark) (a .marks .now)) (marking (a .mark)) i), omega (arith, mark-bound (a .mark) (getD (a .marks .now) i 0) i (omega arith)))
 
 returns : tie.Need-returns Inv-loop μ-loop
 returns c =

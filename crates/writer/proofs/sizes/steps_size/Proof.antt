@@ -1,9 +1,9 @@
 -- `steps_size` meets its contract.
 -- Assumes nothing.
-use Rattle.writer.proofs.Bytes.{steps-none, steps-size, line-bound}
-use Rattle.writer.specs.Order.{stepLines, bytesOf}
-use Rattle.gid.specs.declared.Update.the-variants.{Step}
-use lib.ListN.{length, getD}
+use Rattle.writer.proofs.Bytes.{bytes-one, order-none, order-size, line-bound}
+use Rattle.writer.specs.Order.{stepAt, stepLines, bytesOf}
+use mathlib.Core.Bool.{true}
+use lib.ListN.{length}
 use Prim.Native.Nat.{_≤_, _*_, _-_}
 use borrow.Author.Needs.{needs}
 use native.Mathlib.Omega.{arith}
@@ -18,7 +18,7 @@ abbrev μ-loop : tie.MeasureT-loop
 μ-loop m from to size₀ p₀ size p = m - p
 
 loop-holds : tie.Need-loop-holds Inv-loop μ-loop
-loop-holds c = (omega arith, ap length (sym (steps-none (c .before .before .args .from .now) (c .before .before .args .to .now))), omega arith)
+loop-holds c = (omega arith, ap length (sym (order-none _ _)), omega arith)
 
 mul-step-size : tie.Need-mul-step-size Inv-loop μ-loop
 mul-step-size c = omega arith
@@ -41,7 +41,7 @@ add-size c =
     let i = c .before .before .before .before .loop .p in
     let x = c .before .before .shared-slice-known3 .given i in
     let y = c .before .shared-slice-known4 .given i in
-    let b = line-bound (Step (getD (a .from .now) i 0) (getD (a .to .now) i 0)) (omega arith, omega arith) in
+    let b = line-bound (stepAt (a .from .now) (a .to .now) i) (omega arith, omega arith) in
     omega (arith, c .step-size .ensures)
 
 add-p : tie.Need-add-p Inv-loop μ-loop
@@ -56,8 +56,9 @@ loop-again c =
     let i = c .before .before .before .before .loop .p in
     let x = c .before .before .shared-slice-known3 .given i in
     let y = c .before .shared-slice-known4 .given i in
-    let b = line-bound (Step (getD (a .from .now) i 0) (getD (a .to .now) i 0)) (omega arith, omega arith) in
-    (omega arith, omega (arith, c .step-size .ensures, steps-size i (a .from .now) (a .to .now)), omega (arith, c .step-size .ensures))
+    let b = line-bound (stepAt (a .from .now) (a .to .now) i) (omega arith, omega arith) in
+    let z = rw bytes-one at (order-size (λ p. true) (stepAt (a .from .now) (a .to .now)) i) in
+    (omega arith, omega (arith, c .step-size .ensures), omega (arith, c .step-size .ensures))
 
 returns : tie.Need-returns Inv-loop μ-loop
 returns c =

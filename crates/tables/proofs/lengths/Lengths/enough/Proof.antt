@@ -1,63 +1,15 @@
 use borrow.Author.Needs.{needs}
 use Rattle.tables.proofs.lengths.Lengths.enough.Statement.{statement}
 use Rattle.tables.proofs.lengths.Lengths.enough.Tie as tie
-use Rattle.tables.proofs.lengths.Lengths.enough.Reads as reads
-use Rattle.tables.proofs.lengths.Lengths.enough.Lts as lts
-use Rattle.tables.proofs.lengths.both.Reads as both-reads
+
+enough-to-check-requires : tie.Need-enough-to-check-requires
+enough-to-check-requires c κs = search needs
 
 both-requires : tie.Need-both-requires
 both-requires c κs = search needs
 
-both-requires-2 : tie.Need-both-requires-2
-both-requires-2 c κs = search needs
-
-both-requires-3 : tie.Need-both-requires-3
-both-requires-3 c κs = search needs
-
-both-requires-4 : tie.Need-both-requires-4
-both-requires-4 c κs = search needs
-
-both-requires-5 : tie.Need-both-requires-5
-both-requires-5 c κs = search needs
-
-both-requires-6 : tie.Need-both-requires-6
-both-requires-6 c κs = search needs
-
-both-requires-7 : tie.Need-both-requires-7
-both-requires-7 c κs = search needs
-
-both-requires-8 : tie.Need-both-requires-8
-both-requires-8 c κs = search needs
-
-both-requires-9 : tie.Need-both-requires-9
-both-requires-9 c κs = search needs
-
-both-requires-10 : tie.Need-both-requires-10
-both-requires-10 c κs = search needs
-
-both-requires-11 : tie.Need-both-requires-11
-both-requires-11 c κs = search needs
-
-both-requires-12 : tie.Need-both-requires-12
-both-requires-12 c κs = search needs
-
 returns : tie.Need-returns
-returns c = rw (c .both12 .ensures, c .before .before .both11 .ensures, c .before .before .before .before .both10 .ensures, c .before .before .before .before .before .before .both9 .ensures, c .before .before .before .before .before .before .before .before .both8 .ensures, c .before .before .before .before .before .before .before .before .before .before .both7 .ensures, c .before .before .before .before .before .before .before .before .before .before .before .before .both6 .ensures, c .before .before .before .before .before .before .before .before .before .before .before .before .before .before .both5 .ensures, c .before .before .before .before .before .before .before .before .before .before .before .before .before .before .before .before .both4 .ensures, c .before .before .before .before .before .before .before .before .before .before .before .before .before .before .before .before .before .before .both3 .ensures, c .before .before .before .before .before .before .before .before .before .before .before .before .before .before .before .before .before .before .before .before .both2 .ensures, c .before .before .before .before .before .before .before .before .before .before .before .before .before .before .before .before .before .before .before .before .before .before .both .ensures)
+returns c = rw (c .both .ensures, c .before .enough-to-check .ensures)
 
 pub enough-spec : {M : Type 1} → statement M
-enough-spec =
-    tie.close
-    (tie.spec
-    both-requires
-    both-requires-2
-    both-requires-3
-    both-requires-4
-    both-requires-5
-    both-requires-6
-    both-requires-7
-    both-requires-8
-    both-requires-9
-    both-requires-10
-    both-requires-11
-    both-requires-12
-    returns)
+enough-spec = tie.close (tie.spec enough-to-check-requires both-requires returns)

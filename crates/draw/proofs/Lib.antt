@@ -1,0 +1,2 @@
+-- The drawing program's loop.
+pub mod Turns

@@ -1,0 +1,2 @@
+-- How the drawing program ends.
+pub mod Ending

@@ -1,0 +1,2 @@
+-- The listing program's loop.
+pub mod Turns

@@ -1,0 +1,2 @@
+-- How the listing program ends.
+pub mod Ending

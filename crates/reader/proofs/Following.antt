@@ -1,0 +1,212 @@
+-- The laws of the fold over a record's lines: no line, one line more, and lines behind lines; what it keeps, and where it stands.
+-- Assumes nothing.
+use mathlib.Core.Path.{_≡_, refl, sym, _∙_, ap, subst}
+use mathlib.Core.Logic.{inl, inr}
+use mathlib.Core.Bool.{true, false, false≢true}
+use mathlib.Core.List.{List, [], _∷_, _++_, append-assoc}
+use mathlib.Core.Option.{Option, some, none}
+use Prim.Native.Nat.{ℕ, _+_, _≤_}
+use native.Mathlib.Omega.{arith}
+use lib.ListN.{drop}
+use types.Run.{OneOf}
+use denote.Enum.Declared.{tagOf}
+use Rattle.gid.specs.declared.Update.{Update}
+use Rattle.gid.specs.Histories.{History}
+use Rattle.tables.specs.declared.Graph.{Graph}
+use Rattle.tables.specs.Tables.{Tables}
+use Rattle.tables.specs.Keeping.{KeptTables}
+use Rattle.tables.specs.Refused.{refusalOn}
+use Rattle.tables.proofs.Keeping.{tables-same, tables-then}
+use Rattle.tables.proofs.Refusing.{accepted-passes}
+use Rattle.engine.specs.declared.Answer.{Answer}
+use Rattle.engine.specs.declared.Answer.the-variants.{Accepted as Yes, Refused as No}
+use Rattle.engine.specs.Promise.{Promise}
+use Rattle.engine.proofs.Running.{was-accepted, same-states, same-limit}
+use Rattle.engine.proofs.Promising.{room-of}
+use Rattle.record.specs.declared.splitter.Item.{Item}
+use Rattle.record.proofs.splitter.Item.{the-type}
+use Rattle.record.specs.declared.splitter.Item.the-variants.{Nothing as NoLine, Update as Sent, Malformed, BadNames, TooMany}
+use Rattle.record.specs.declared.splitter.Splitter.{Splitter}
+use Rattle.record.specs.Items.{itemLine, maxLines}
+use Rattle.record.specs.Splitting.{afterPart, told, run}
+use Rattle.record.proofs.Splitting.{run-part, part-bytes, part-line}
+use Rattle.reader.specs.declared.driver.LineAnswer.{LineAnswer}
+use Rattle.reader.specs.declared.driver.LineAnswer.the-variants.{Nothing}
+use Rattle.reader.specs.declared.driver.Until.{Until}
+use Rattle.reader.specs.declared.driver.Until.the-variants.{News, Refusal, End}
+use Rattle.reader.specs.Turning.{itemAnswer, lineAnswer, Came, sent, nothing, malformed, badNames, tooMany}
+use Rattle.reader.specs.Replaying.{afterItems}
+use Rattle.reader.specs.Standing.{Standing}
+use Rattle.reader.specs.Advancing.{Passed, itemsOf, Applies, none as no-line, next, waited, Quiet, found, ended, Bounded, Follows, Advances}
+use Rattle.reader.proofs.Lines.{line-right}
+
+-- What comes of a line that is no update: its tag is another than an update's.
+pub came-other : (a : Item) {g : Graph} {t : Tables} → OneOf (0 ∷ 2 ∷ 3 ∷ 4 ∷ []) (tagOf the-type a) → Came a g t g t (itemAnswer a)
+came-other NoLine e = nothing
+came-other (Sent r) (inl e) = absurd (omega arith)
+came-other (Sent r) (inr (inl e)) = absurd (omega arith)
+came-other (Sent r) (inr (inr (inl e))) = absurd (omega arith)
+came-other (Sent r) (inr (inr (inr e))) = absurd (omega arith)
+came-other (Malformed n) e = malformed
+came-other BadNames e = badNames
+came-other TooMany e = tooMany
+
+pub came-as : {a b : Item} {g : Graph} {t : Tables} {g′ : Graph} {t′ : Tables} {o : LineAnswer} → a ≡ b → Came a g t g′ t′ o → Came b g t g′ t′ o
+came-as {g = g} {t = t} {g′ = g′} {t′ = t′} {o = o} e c = subst (λ (x : Item). Came x g t g′ t′ o) e c
+
+-- What a call keeps: every table past its needed length, and the sizes.
+pub record Same (g : Graph) (t : Tables) (g′ : Graph) (t′ : Tables) : Type 0 where
+  pub kept : KeptTables (g .n) (g .limit) t t′
+  pub states : g′ .n ≡ g .n
+  pub limit : g′ .limit ≡ g .limit
+
+same-none : (g : Graph) (t : Tables) → Same g t g t
+same-none g t = record { kept = tables-same (g .n) (g .limit) t; states = refl; limit = refl }
+
+same-then : {g g₁ g₂ : Graph} {t t₁ t₂ : Tables} → Same g t g₁ t₁ → Same g₁ t₁ g₂ t₂ → Same g t g₂ t₂
+same-then a b = record { kept = tables-then (a .kept) (rw (a .states, a .limit) at (b .kept)); states = b .states ∙ a .states; limit = b .limit ∙ a .limit }
+
+same-promise : {g : Graph} {x : Update} {t : Tables} {g′ : Graph} {a : Answer} {t′ : Tables} → Promise g x t g′ a t′ → Same g t g′ t′
+same-promise {g} {x} {t} {g′} {a} {t′} p = by (refusalOn g t x) refl
+  where
+    by : (o : Option ℕ) → refusalOn g t x ≡ o → Same g t g′ t′
+    by none e =
+        let w = p .accepts e in
+        record { kept = w .kept; states = ap (λ (h : Graph). h .n) (w .graph) ∙ same-states g x; limit = ap (λ (h : Graph). h .limit) (w .graph) ∙ same-limit g x }
+    by (some k) e = let w = p .refuses k e in rw (w .1, w .2) (same-none g t)
+
+pub came-same : {a : Item} {g : Graph} {t : Tables} {g′ : Graph} {t′ : Tables} {o : LineAnswer} → Came a g t g′ t′ o → Same g t g′ t′
+came-same {g = g} {t = t} nothing = same-none g t
+came-same (sent p e) = same-promise p
+came-same {g = g} {t = t} malformed = same-none g t
+came-same {g = g} {t = t} badNames = same-none g t
+came-same {g = g} {t = t} tooMany = same-none g t
+
+pub applies-same : {g g′ : Graph} {t t′ : Tables} {l : List Passed} → Applies g t l g′ t′ → Same g t g′ t′
+applies-same {g} {t = t} no-line = same-none g t
+applies-same (next c a) = same-then (came-same c) (applies-same a)
+
+-- lines behind lines
+pub applies-then : {g g₁ g′ : Graph} {t t₁ t′ : Tables} {l m : List Passed} → Applies g t l g₁ t₁ → Applies g₁ t₁ m g′ t′ → Applies g t (l ++ m) g′ t′
+applies-then no-line b = b
+applies-then (next c a) b = next c (applies-then a b)
+
+pub items-then : (l m : List Passed) → itemsOf (l ++ m) ≡ itemsOf l ++ itemsOf m
+items-then [] m = refl
+items-then (p ∷ l) m = ap (λ (x : List Item). p .item ∷ x) (items-then l m)
+
+-- Where lines are applied to tables that stand, they stand for the history after them.
+pub applies-stands : {limit : ℕ} {h : History} {g g′ : Graph} {t t′ : Tables} {l : List Passed} → Standing limit h g t → Applies g t l g′ t′ → Standing limit (afterItems limit h (itemsOf l)) g′ t′
+applies-stands s no-line = s
+applies-stands s (next c a) = applies-stands (line-right s c .1) a
+
+-- What a turn passes: the line that has ended, if one has.
+abbrev one : Item → LineAnswer → Tables → List Passed
+one NoLine o t = []
+one (Sent r) o t = record { item = Sent r; answer = o; after = t } ∷ []
+one (Malformed n) o t = record { item = Malformed n; answer = o; after = t } ∷ []
+one BadNames o t = record { item = BadNames; answer = o; after = t } ∷ []
+one TooMany o t = record { item = TooMany; answer = o; after = t } ∷ []
+
+one-told : (a : Item) (o : LineAnswer) (t : Tables) → itemsOf (one a o t) ≡ told a
+one-told NoLine o t = refl
+one-told (Sent r) o t = refl
+one-told (Malformed n) o t = refl
+one-told BadNames o t = refl
+one-told TooMany o t = refl
+
+one-applies : {a : Item} {g : Graph} {t : Tables} {g′ : Graph} {t′ : Tables} {o : LineAnswer} → Came a g t g′ t′ o → Applies g t (one a o t′) g′ t′
+one-applies nothing = no-line
+one-applies (sent p e) = next (sent p e) no-line
+one-applies malformed = next malformed no-line
+one-applies badNames = next badNames no-line
+one-applies tooMany = next tooMany no-line
+
+quiet-then : (until : Until) (l m : List Passed) → Quiet until l → Quiet until m → Quiet until (l ++ m)
+quiet-then until [] m a b = b
+quiet-then until (p ∷ l) m a b = (a .0, quiet-then until l m (a .1) b)
+
+one-quiet : (until : Until) (a : Item) (o : LineAnswer) (t : Tables) → waited until o ≡ false → Quiet until (one a o t)
+one-quiet until NoLine o t e = tt
+one-quiet until (Sent r) o t e = (e, tt)
+one-quiet until (Malformed n) o t e = (e, tt)
+one-quiet until BadNames o t e = (e, tt)
+one-quiet until TooMany o t e = (e, tt)
+
+-- a line that is waited for has ended
+one-found : (until : Until) {a : Item} {g : Graph} {t : Tables} {g′ : Graph} {t′ : Tables} {o : LineAnswer} → Came a g t g′ t′ o → waited until o ≡ true → (p : Passed) × (one a o t′ ≡ p ∷ []) × (o ≡ p .answer)
+one-found until nothing e = absurd (false≢true (sym (never until) ∙ e))
+  where
+    never : (u : Until) → waited u Nothing ≡ false
+    never News = refl
+    never Refusal = refl
+    never End = refl
+one-found until (sent p q) e = (_, refl, refl)
+one-found until malformed e = (_, refl, refl)
+one-found until badNames e = (_, refl, refl)
+one-found until tooMany e = (_, refl, refl)
+
+-- what came of a line is bounded
+came-bounded : {a : Item} {g : Graph} {t : Tables} {g′ : Graph} {t′ : Tables} {o : LineAnswer} → Came a g t g′ t′ o → itemLine a ≤ maxLines + 1 → Bounded o (t′ .news)
+came-bounded nothing h = tt
+came-bounded {g = g} {t = t} {g′ = g′} {t′ = t′} (sent {r = r} {a = a} p e) h = rw e (by a p)
+  where
+    by : (x : Answer) → Promise g (r .update) t g′ x t′ → Bounded (lineAnswer (r .line) x) (t′ .news)
+    by (Yes k) q =
+        let w = was-accepted q in
+        let m = room-of g t (accepted-passes g t (r .update) (w .0) .0) in
+        (h, omega (arith, w .1 .named .few, m .states), omega (arith, w .1 .named .few, m .news, w .1 .named .behind .size))
+    by (No k) q = h
+came-bounded malformed h = h
+came-bounded badNames h = omega arith
+came-bounded tooMany h = omega arith
+
+abbrev pub follows-none : (s : Splitter) (bytes : List ℕ) (g : Graph) (t : Tables) → Follows s bytes g t s bytes g t
+follows-none s bytes g t = record { passed = []; applied = no-line; told = λ rest. refl; fed = refl; kept = tables-same (g .n) (g .limit) t }
+
+module _ {s s₁ s₂ : Splitter} {bytes bytes₁ bytes₂ : List ℕ} {g g₁ g₂ : Graph} {t t₁ t₂ : Tables} where
+  -- some lines, and then others
+  abbrev pub follows-then : Follows s bytes g t s₁ bytes₁ g₁ t₁ → Follows s₁ bytes₁ g₁ t₁ s₂ bytes₂ g₂ t₂ → Follows s bytes g t s₂ bytes₂ g₂ t₂
+  follows-then a b =
+      record {
+        passed = a .passed ++ b .passed;
+        applied = applies-then (a .applied) (b .applied);
+        told = λ rest.
+            a .told rest ∙ ap (λ (x : List Item). itemsOf (a .passed) ++ x) (b .told rest) ∙
+            sym (append-assoc (itemsOf (a .passed)) (itemsOf (b .passed)) (run s₂ (bytes₂ ++ rest))) ∙
+            ap (λ (x : List Item). x ++ run s₂ (bytes₂ ++ rest)) (sym (items-then (a .passed) (b .passed)));
+        fed = a .fed ∙ b .fed;
+        kept = applies-same (applies-then (a .applied) (b .applied)) .kept;
+      }
+
+-- A turn, by what it answers.
+abbrev turned : (s : Splitter) (l : List ℕ) (i : ℕ) {g g′ : Graph} {t t′ : Tables} {o : LineAnswer} → Came (afterPart s l i .item) g t g′ t′ o → Follows s (drop i l) g t (afterPart s l i .splitter) (drop (afterPart s l i .next) l) g′ t′
+turned s l i {t′ = t′} {o = o} c =
+    record {
+      passed = one (afterPart s l i .item) o t′;
+      applied = one-applies c;
+      told = λ rest. run-part s l rest i ∙ ap (λ (x : List Item). x ++ run (afterPart s l i .splitter) (drop (afterPart s l i .next) l ++ rest)) (sym (one-told (afterPart s l i .item) o t′));
+      fed = part-bytes s l i;
+      kept = came-same c .kept;
+    }
+
+module _ (until : Until) {s s₁ s₂ : Splitter} {bytes : List ℕ} {g g₁ g₂ : Graph} {t t₁ t₂ : Tables} (l : List ℕ) (i j : ℕ) {o : LineAnswer} (f : Follows s bytes g t s₁ (drop i l) g₁ t₁) (quiet : Quiet until (f .passed)) (n : j ≡ afterPart s₁ l i .next) (m : s₂ ≡ afterPart s₁ l i .splitter) (c : Came (afterPart s₁ l i .item) g₁ t₁ g₂ t₂ o) where
+  -- one line more that is not waited for
+  pub follows-line : waited until o ≡ false → (k : Follows s bytes g t s₂ (drop j l) g₂ t₂) × Quiet until (k .passed)
+  follows-line e =
+      rw (n, m) (follows-then f (turned s₁ l i c), quiet-then until (f .passed) (one (afterPart s₁ l i .item) o t₂) quiet (one-quiet until (afterPart s₁ l i .item) o t₂ e))
+
+  -- the one that is
+  pub advances-found : (bytes ≡ [] → ⊥) → waited until o ≡ true → Advances until s bytes g t s₂ (drop j l) g₂ t₂ o
+  advances-found d e =
+      let w = one-found until c e in
+      rw (n, m) (record {
+        follows = follows-then f (turned s₁ l i c);
+        stops = found (f .passed) (w .0) (ap (λ (x : List Passed). f .passed ++ x) (w .1)) quiet e (w .2);
+        idle = λ z. absurd (d z);
+        bounded = came-bounded c (part-line s₁ l i);
+      })
+
+-- no byte is left
+pub advances-ended : (until : Until) {s s′ : Splitter} {bytes bytes′ : List ℕ} {g g′ : Graph} {t t′ : Tables} (f : Follows s bytes g t s′ bytes′ g′ t′) → Quiet until (f .passed) → (bytes ≡ [] → f .passed ≡ []) → bytes′ ≡ [] → Advances until s bytes g t s′ bytes′ g′ t′ Nothing
+advances-ended until f quiet idle e = record { follows = f; stops = ended quiet e refl; idle = idle; bounded = tt }

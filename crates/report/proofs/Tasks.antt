@@ -1,0 +1,144 @@
+-- What a call of a listing comes to: the lines of a piece, and what is to be done behind them.
+-- Assumes nothing.
+use mathlib.Core.Path.{_≡_, refl, _∙_, ap, subst}
+use mathlib.Core.Bool.{Bool, true, false, cond}
+use mathlib.Core.List.{List, [], _∷_}
+use Prim.Native.Nat.{ℕ, _+_, _≤_, _<_}
+use native.Mathlib.Omega.{arith}
+use lib.Dec.{leb}
+use lib.ListN.{length, drop, drop-of-length-le}
+use borrow.Author.Tests.{leb-true}
+use Rattle.tables.specs.Tables.{Tables}
+use Rattle.tables.specs.Keeping.{KeptTables}
+use Rattle.tables.proofs.Keeping.{tables-same}
+use Rattle.record.specs.Text.{WroteAt}
+use Rattle.record.specs.Splitting.{lastNewline}
+use Rattle.record.proofs.Placing.{placed-on, placed-length}
+use Rattle.record.proofs.Splitting.{last-short}
+use Rattle.reader.specs.Pieces.{pieceOr}
+use Rattle.reader.specs.Advancing.{Follows}
+use Rattle.reader.proofs.Whole.{last-left}
+use Rattle.report.specs.declared.lines.Listed.{Listed}
+use Rattle.report.specs.declared.lister.Lister.{Lister}
+use Rattle.reader.specs.declared.task.Task.{Task}
+use Rattle.reader.specs.declared.task.Task.the-variants.{Read, Write, End}
+use Rattle.report.specs.Printing.{passedText, Lines}
+use Rattle.report.specs.Lister.{listerRoom, least, placeBy, startBy, short, totals, AfterLines, waits, continues, stops, ends, Lists, full, pauses, goes-on, stopped, ended}
+
+pub least-within : (a b : ℕ) → least a b ≤ b
+least-within a b = by (leb a b) refl
+  where
+    by : (q : Bool) → leb a b ≡ q → cond q a b ≤ b
+    by true e = leb-true a b e
+    by false e = omega arith
+
+-- a piece is read from an index within it
+pub start-within : (task : Task) (next len : ℕ) → startBy task next len ≤ len
+start-within Read next len = omega arith
+start-within Write next len = least-within next len
+start-within End next len = least-within next len
+
+pub start-piece : (task : Task) (next : ℕ) (piece newline : List ℕ) → startBy task next (length piece) ≤ length (pieceOr piece newline)
+start-piece task next [] newline = omega (arith, start-within task next 0)
+start-piece task next (b ∷ piece) newline = start-within task next (length (b ∷ piece))
+
+pub place-within : (task : Task) (end len : ℕ) → end ≤ len → placeBy task end ≤ len
+place-within Read end len h = h
+place-within Write end len h = omega arith
+place-within End end len h = h
+
+-- from none of an empty one
+start-empty : (task : Task) (next : ℕ) → startBy task next 0 ≡ 0
+start-empty task next = omega (arith, start-within task next 0)
+
+module _ (l : Lister) (output : List ℕ) (t : Tables) (d : Listed) (e : List ℕ) (t′ : Tables) where
+  -- What the lines of a part leave, by where they stop.
+  abbrev Done : List ℕ → List ℕ → ℕ → Type 0
+  Done bytes left at = (f : Follows (l .reader .splitter) bytes (l .reader .engine .graph) t (d .reader .splitter) left (d .reader .engine .graph) t′) × WroteAt at (passedText (f .passed)) output e (d .end)
+
+  module _ {at : ℕ} (room : at + listerRoom ≤ length output) where
+    size : {bytes left : List ℕ} → Done bytes left at → d .end ≤ length output → length e ≡ length output
+    size w h = placed-length at (passedText (w .0 .passed)) output e (d .end) (w .1) (omega (arith, w .1 .after))
+
+    -- a piece
+    module _ {piece : List ℕ} (some : 0 < length piece) {index : ℕ} (place : at ≡ placeBy (l .task) (l .end)) (from : index ≡ startBy (l .task) (l .next) (length piece))
+        (k : Lines (l .reader .splitter) piece index (l .reader .engine .graph) t (d .reader .splitter) (d .next) (d .reader .engine .graph) t′ at output e (d .end)) where
+      done : Done (drop (startBy (l .task) (l .next) (length piece)) piece) (drop (d .next) piece) (placeBy (l .task) (l .end))
+      done =
+          subst (λ (i : ℕ). Done (drop i piece) (drop (d .next) piece) (placeBy (l .task) (l .end))) from
+          (subst (λ (i : ℕ). Done (drop index piece) (drop (d .next) piece) i) place (k .follows, k .wrote))
+
+      pub lists-piece : {l′ : Lister} {output′ : List ℕ} → AfterLines d (length piece) (length piece) (t′ .status) e l′ output′ → Lists l piece output t l′ output′ t′
+      lists-piece (waits h q z) = rw (q, z) (pauses (done .0) refl (omega (arith, k .short h)) (done .1) (k .within))
+      lists-piece (continues h g s q z) = rw (q, z) (goes-on (done .0) (drop-of-length-le piece h) refl g s (done .1) (k .within))
+      lists-piece (stops h g s (short r q z)) = rw (q, z) (pauses (done .0) refl (omega (arith, size (k .follows, k .wrote) (k .within))) (done .1) (k .within))
+      lists-piece (stops h g s (totals {r = n} q r w)) =
+          let v : n ≤ length output = omega (arith, size (k .follows, k .wrote) (k .within)) in
+          rw q (stopped (done .0) refl s (placed-on (done .1) w v) v)
+      lists-piece (ends h g c) = absurd (omega arith)
+
+    -- the end of the input
+    module _ {newline : List ℕ} (last : newline ≡ lastNewline (l .reader .splitter)) {index : ℕ} (place : at ≡ placeBy (l .task) (l .end)) (from : index ≡ startBy (l .task) (l .next) 0)
+        (k : Lines (l .reader .splitter) newline index (l .reader .engine .graph) t (d .reader .splitter) (d .next) (d .reader .engine .graph) t′ at output e (d .end)) where
+      none-before : index ≡ 0
+      none-before = from ∙ start-empty (l .task) (l .next)
+
+      one : length newline ≤ 1
+      one = rw last (last-short (l .reader .splitter))
+
+      moves : 0 < length newline → 0 < d .next
+      moves h = omega (arith, k .onward (rw none-before h) (omega arith))
+
+      over : drop (d .next) newline ≡ []
+      over = last-left newline (d .next) one moves
+
+      done-last : Done newline (drop (d .next) newline) (placeBy (l .task) (l .end))
+      done-last =
+          subst (λ (i : ℕ). Done newline (drop (d .next) newline) i) place
+          (subst (λ (i : ℕ). Done (drop i newline) (drop (d .next) newline) at) none-before (k .follows, k .wrote))
+
+      pub lists-end : {l′ : Lister} {output′ : List ℕ} → AfterLines d (length newline) 0 (t′ .status) e l′ output′ → Lists l [] output t l′ output′ t′
+      lists-end (waits h q z) = absurd (by (length newline) refl)
+        where
+          by : (n : ℕ) → length newline ≡ n → ⊥
+          by Prim.Native.Nat.zero y = omega arith
+          by (Prim.Native.Nat.suc n) y = let m = moves (omega arith) in omega (arith, one)
+      lists-end (continues h g s q z) = absurd (omega arith)
+      lists-end (stops h g s c) = absurd (omega arith)
+      lists-end (ends h g (short r q z)) = absurd (omega (arith, size (k .follows, k .wrote) (k .within), k .each, k .inside, one, none-before))
+      lists-end (ends h g (totals {r = n} q r w)) =
+          let v : n ≤ length output = omega (arith, size (k .follows, k .wrote) (k .within)) in
+          rw q (ended refl last (done-last .0) over refl (placed-on (done-last .1) w v) v)
+
+-- Either, by what the piece is.
+pub lists-by :
+    (l : Lister) (piece output : List ℕ) (t : Tables) (d : Listed) (e : List ℕ) (t′ : Tables) {at index : ℕ} {part newline : List ℕ} {l′ : Lister} {output′ : List ℕ} →
+    at + listerRoom ≤ length output → at ≡ placeBy (l .task) (l .end) → index ≡ startBy (l .task) (l .next) (length piece) → part ≡ pieceOr piece newline → newline ≡ lastNewline (l .reader .splitter) →
+    Lines (l .reader .splitter) part index (l .reader .engine .graph) t (d .reader .splitter) (d .next) (d .reader .engine .graph) t′ at output e (d .end) →
+    AfterLines d (length part) (length piece) (t′ .status) e l′ output′ → Lists l piece output t l′ output′ t′
+lists-by l [] output t d e t′ {at = at} {index = index} {l′ = l′} {output′ = output′} room p i q n k f =
+    lists-end l output t d e t′ room n p i
+    (subst (λ (x : List ℕ). Lines (l .reader .splitter) x index (l .reader .engine .graph) t (d .reader .splitter) (d .next) (d .reader .engine .graph) t′ at output e (d .end)) q k)
+    (subst (λ (x : List ℕ). AfterLines d (length x) 0 (t′ .status) e l′ output′) q f)
+lists-by l (b ∷ piece) output t d e t′ {at = at} {index = index} {l′ = l′} {output′ = output′} room p i q n k f =
+    lists-piece l output t d e t′ room {piece = b ∷ piece} (omega arith) p i
+    (subst (λ (x : List ℕ). Lines (l .reader .splitter) x index (l .reader .engine .graph) t (d .reader .splitter) (d .next) (d .reader .engine .graph) t′ at output e (d .end)) q k)
+    (subst (λ (x : List ℕ). AfterLines d (length x) (length (b ∷ piece)) (t′ .status) e l′ output′) q f)
+
+-- What a call keeps of the tables, and where the text ends.
+pub lists-kept : {l : Lister} {piece output : List ℕ} {t : Tables} {l′ : Lister} {output′ : List ℕ} {t′ : Tables} → Lists l piece output t l′ output′ t′ → KeptTables (l .reader .engine .graph .n) (l .reader .engine .graph .limit) t t′
+lists-kept {l} {t = t} (full h q z w) = rw w (tables-same (l .reader .engine .graph .n) (l .reader .engine .graph .limit) t)
+lists-kept (pauses f k s w h) = f .kept
+lists-kept (goes-on f o k g s w h) = f .kept
+lists-kept (stopped f k s w h) = f .kept
+lists-kept (ended e n f o k w h) = f .kept
+
+placed-within : {at r : ℕ} {text output output′ : List ℕ} → WroteAt at text output output′ r → r ≤ length output → length output′ ≡ length output
+placed-within {at} {r} {text} {output} {output′} w h = placed-length at text output output′ r w (omega (arith, w .after))
+
+pub lists-within : {l : Lister} {piece output : List ℕ} {t : Tables} {l′ : Lister} {output′ : List ℕ} {t′ : Tables} → Lists l piece output t l′ output′ t′ → (l′ .end ≤ length output) × (length output′ ≡ length output)
+lists-within {l} {output = output} (full h q z w) = (rw q (least-within (placeBy (l .task) (l .end)) (length output)), ap length z)
+lists-within (pauses f k s w h) = (h, placed-within w h)
+lists-within (goes-on f o k g s w h) = (h, placed-within w h)
+lists-within (stopped f k s w h) = (h, placed-within w h)
+lists-within (ended e n f o k w h) = (h, placed-within w h)

@@ -1,0 +1,2 @@
+-- What the programs promise of their streams.
+pub mod Serving

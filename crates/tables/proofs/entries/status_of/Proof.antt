@@ -1,0 +1,19 @@
+-- `status_of` meets its contract.
+-- Assumes nothing.
+use lib.ListN.{List·getD-eq-default}
+use mathlib.Core.Path.{sym}
+use borrow.Author.Needs.{needs}
+use Rattle.tables.proofs.entries.status_of.Statement.{statement}
+use Rattle.tables.proofs.entries.status_of.Tie as tie
+
+shared-slice-read-result : tie.Need-shared-slice-read-result
+shared-slice-read-result c = search needs
+
+returns : tie.Need-returns
+returns c = search needs
+
+returns-2 : tie.Need-returns-2
+returns-2 c = sym (List·getD-eq-default (c .before .args .status .now) 0 (c .if1 .left))
+
+pub status-of-spec : {M : Type 1} → statement M
+status-of-spec = tie.close (tie.spec shared-slice-read-result returns returns-2)

@@ -1,0 +1,61 @@
+#!/usr/bin/env bash
+# Makes ready what the tests, the benchmark and the examples run: the programs target/bin/listing and target/bin/draw, and the library for
+# C, target/staticlib/libcapi.a. Proves and builds what is missing or older than its sources, with a line for each crate as it is proved;
+# silent where there is nothing to do.
+set -euo pipefail
+cd "$(dirname "$0")/.."
+programs="listing draw"
+library=target/staticlib/libcapi.a
+log=$(mktemp)
+trap 'rm -f "$log"' EXIT
+
+# Crates and what they depend on in this repository.
+reached() { # NAME..
+    awk -v names="$*" '
+        function visit(n,    a, k, m) {
+            if (!(n in deps) || seen[n]++) return
+            m = split(deps[n], a, " ")
+            for (k = 1; k <= m; k++) visit(a[k])
+            print n
+        }
+        { sub(/#.*/, ""); i = index($0, ":"); if (i) deps[substr($0, 1, i - 1)] = substr($0, i + 1) }
+        END { count = split(names, wanted, " "); for (i = 1; i <= count; i++) visit(wanted[i]) }' crates.txt
+}
+
+# rt keeps no stamp of a library for C, so this is one: the kit, the sources of the crates in it, and the library itself.
+sources=$({
+    rt version
+    reached capi | while read -r crate; do find "crates/$crate" -type f ! -path '*/must-fail/*' -print0; done | sort -z | xargs -0 sha256sum
+} | sha256sum)
+stamp() { echo "$sources" && sha256sum "$library"; }
+library_ready() { [ -f "$library" ] && stamp | cmp -s - "$library.stamp"; }
+
+# Runs rt and says of each crate that it proves the time that it took, and how many are left: rt may find some of them unchanged. Where rt
+# fails, shows what it printed.
+prove() { # LEFT COMMAND..
+    local left=$1
+    shift
+    "$@" 2>&1 | tee "$log" | awk -v left="$left" '
+        /^rt: [^ ]+ proved \(/ { left-- }
+        /^rt: [^ ]+ proved \([0-9]+ s\)$/ {
+            print "proved " $2 ", " substr($4, 2) " s; " (left ? "at most " left : "none") " left"
+            fflush()
+        }' || {
+        cat "$log" >&2
+        return 1
+    }
+}
+
+for program in $programs; do
+    [ -x "target/bin/$program" ] || rm -f "target/stamp/$program"    # its proof alone does not bring it back
+done
+below= library_left=0
+if ! library_ready; then below=$(reached capi | grep -vx capi) library_left=1; fi
+prove $(($(reached $programs $below | wc -l) + library_left)) rt check $programs $below
+if [ "$library_left" -eq 1 ]; then
+    rm -f "$library.stamp"
+    began=$SECONDS
+    prove 0 rt staticlib capi
+    stamp >"$library.stamp"
+    echo "proved capi and built $library, $((SECONDS - began)) s"
+fi

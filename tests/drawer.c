@@ -1,0 +1,29 @@
+// The naive picture as a program: what tests/faults.sh plants its faults in.
+#include "drawing.h"
+#include "standard.h"
+
+// Bold are steps by which unknown states come nearer to an open one: from each that has come near, those with a step to it follow.
+static void choose(const Reading *r, uint8_t *bold)
+{
+    uint8_t near[MOST_STATES];
+    for (size_t s = 0; s < MOST_STATES; s++) near[s] = r->status[s] == OPEN;
+    for (int more = 1; more;) {
+        more = 0;
+        for (size_t i = 0, p = 0; i < r->history.count; i++) {
+            Update u = r->history.accepted[i];
+            if (u.kind == 'E' && r->status[u.first] == UNKNOWN && !near[u.first] && near[u.second]) near[u.first] = bold[p] = 1, more = 1;
+            p += u.kind == 'E';
+        }
+    }
+}
+
+int main(void)
+{
+    static Reading reading;
+    static uint8_t bold[MOST_STEPS];
+    standard_read("draw", &reading, NULL);
+    choose(&reading, bold);
+    drawing_write(&reading, bold, stdout);
+    standard_end("draw");
+    return 0;
+}

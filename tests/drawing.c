@@ -1,0 +1,65 @@
+// The picture by its format: a line for each state that has a status from 1 to 4, then every listed step in order, bold where it is its
+// source's successor.
+#include "drawing.h"
+#include "fitting.h"
+#include <string.h>
+
+static const char opening[] = "digraph verdicts {\n  rankdir=LR;\n  node [style=filled];\n";
+static const char bold_end[] = " [style=bold];";
+
+enum { OPENING_LINES = 3 };
+
+static void write_state(size_t s, uint8_t status, FILE *picture)
+{
+    static const char *const words[] = {"unseen", "open", "unknown", "live", "dead"};
+    static const char *const colours[] = {"", "#ffffff", "#ffe08a", "#a8dba0", "#f0a8a0"};
+    if (status != UNSEEN) fprintf(picture, "  %zu [label=\"%zu %s\", fillcolor=\"%s\"];\n", s, s, words[status], colours[status]);
+}
+
+void drawing_write(const Reading *r, const uint8_t *bold, FILE *picture)
+{
+    size_t p = 0;
+    fprintf(picture, "%s", opening);
+    for (size_t s = 0; s < MOST_STATES; s++) write_state(s, r->status[s], picture);
+    for (size_t i = 0; i < r->history.count; i++) {
+        Update u = r->history.accepted[i];
+        if (u.kind == 'E') fprintf(picture, "  %zu -> %zu%s\n", u.first, u.second, bold[p++] ? bold_end : ";");
+    }
+    fprintf(picture, "}\n");
+}
+
+static size_t states_drawn(const Reading *r)
+{
+    size_t count = 0;
+    for (size_t s = 0; s < MOST_STATES; s++) count += r->status[s] != UNSEEN;
+    return count;
+}
+
+void drawing_bold(const Reading *r, const uint8_t *picture, size_t length, uint8_t *bold)
+{
+    const uint8_t *at = picture, *end = picture + length;
+    size_t before = OPENING_LINES + states_drawn(r), most = strlen(bold_end);
+    for (size_t line = 0; line < before + r->history.steps; line++) {
+        const uint8_t *newline = memchr(at, '\n', (size_t)(end - at));
+        size_t bytes = (size_t)((newline ? newline : end) - at);
+        if (line >= before) bold[line - before] = bytes >= most && memcmp(at + bytes - most, bold_end, most) == 0;
+        at += bytes + (newline != NULL);
+    }
+}
+
+size_t drawing_leads(const Reading *r, const uint8_t *bold)
+{
+    uint16_t from[MOST_STEPS], to[MOST_STEPS], successor[MOST_STATES];
+    size_t p = 0;
+    memset(successor, 255, sizeof successor);
+    for (size_t i = 0; i < r->history.count; i++) {
+        Update u = r->history.accepted[i];
+        if (u.kind != 'E') continue;
+        if (bold[p] && successor[u.first] != NO_SUCCESSOR) return 0;
+        if (bold[p]) successor[u.first] = (uint16_t)p;
+        from[p] = (uint16_t)u.first, to[p] = (uint16_t)u.second;
+        p++;
+    }
+    Tables t = {.n = MOST_STATES, .steps = p, .status = r->status, .from = from, .to = to, .successor = successor};
+    return fits_successors(&t);
+}

@@ -1,0 +1,324 @@
+// Records in the making.
+#include "making.h"
+#include "groups.h"
+#include "program.h"
+#include "random.h"
+#include "runs.h"
+#include <stdarg.h>
+#include <stdio.h>
+#include <stdlib.h>
+#include <string.h>
+
+// ---- the record in hand
+
+uint8_t record[RECORD_ROOM];
+size_t record_length;
+
+void add_bytes(const void *bytes, size_t count)
+{
+    if (record_length + count > RECORD_ROOM) abort();
+    memcpy(record + record_length, bytes, count);
+    record_length += count;
+}
+
+void add(const char *format, ...)
+{
+    va_list arguments;
+    va_start(arguments, format);
+    record_length += (size_t)vsnprintf((char *)record + record_length, RECORD_ROOM - record_length, format, arguments);
+    va_end(arguments);
+    if (record_length >= RECORD_ROOM) abort();
+}
+
+void add_run(uint8_t byte, size_t count)
+{
+    if (record_length + count > RECORD_ROOM) abort();
+    memset(record + record_length, byte, count);
+    record_length += count;
+}
+
+void start_record(void)
+{
+    record_length = 0;
+    add("kind from to\n");
+}
+
+void add_update(Update u)
+{
+    if (u.kind == 'E') add("E %zu %zu\n", u.first, u.second);
+    else add("%c %zu -\n", u.kind, u.first);
+}
+
+void show_record(void)
+{
+    printf("  record of %zu bytes:", record_length);
+    for (size_t i = 0; i < record_length && i < 400; i++)
+        record[i] >= ' ' && record[i] < 127 && record[i] != '\\' ? printf("%c", record[i]) : printf("\\%02x", record[i]);
+    printf("%s\n", record_length > 400 ? "..." : "");
+}
+
+// ---- valid records
+
+// Updates over so many states. A careful explorer sends nothing that is refused.
+static void add_lines(size_t lines, size_t states, int careful)
+{
+    static History h;
+    size_t far = careful ? 0 : below(3);
+    random_history(&h, states, 2048, lines, careful);
+    for (size_t i = 0; i < h.count; i++) {
+        Update u = h.accepted[i];
+        if (far && one_in(40)) *(one_in(2) ? &u.first : &u.second) = one_in(2) ? 2046 + below(4) : below(65536);
+        add_update(u);
+    }
+}
+
+static void random_record(void)
+{
+    size_t lines = one_in(20) ? below(3000) : below(one_in(3) ? 200 : 30), careful = one_in(2);
+    start_record();
+    add_lines(lines, one_in(4) ? 2048 : 1 + below(1 + lines / 2), (int)careful);
+    if (one_in(3)) record_length--;
+}
+
+void valid_records(size_t count, void (*hold)(size_t piece))
+{
+    for (size_t i = 0; i < count && !failed; i++) {
+        progress(i, count);
+        random_record();
+        hold(0);
+    }
+}
+
+// As many steps as the limit, and more; then a verdict for all states at once.
+void full_records(size_t count, void (*hold)(size_t piece))
+{
+    for (size_t more = 0; more < 4 && !failed; more++) {
+        start_record();
+        for (size_t p = 0; p < 2047 + more; p++) add("E %zu %zu\n", p % 2048, (p + 1) % 2048);
+        for (size_t s = 0; s < 2047; s++) add("C %zu -\n", s);
+        add(one_in(2) ? "C 2047 -\n" : "T 2047 -\n");
+        hold(0);
+    }
+    for (size_t i = 0; i < count && !failed; i++) {
+        start_record();
+        add_lines(1000 + below(8000), 2048, one_in(2));
+        hold(0);
+    }
+}
+
+// ---- damaged records
+
+static uint8_t some_byte(void)
+{
+    static const char special[] = "\n\n\n\r \t00123456789--ETCetc+.,x";
+    return one_in(4) ? (uint8_t)random_word() : (uint8_t)special[below(sizeof special)];    // its NUL too
+}
+
+static void insert_byte(size_t at, uint8_t byte)
+{
+    add_bytes("", 1);
+    memmove(record + at + 1, record + at, record_length - 1 - at);
+    record[at] = byte;
+}
+
+static void remove_bytes(size_t at, size_t count)
+{
+    memmove(record + at, record + at + count, record_length - at - count);
+    record_length -= count;
+}
+
+// From a place to the end of its line, the newline not counted.
+static size_t to_line_end(size_t at)
+{
+    const uint8_t *end = memchr(record + at, '\n', record_length - at);
+    return end ? (size_t)(end - record) - at : record_length - at;
+}
+
+static void insert_zeros(size_t at)
+{
+    for (size_t i = 1 + below(12); i > 0; i--) insert_byte(at, '0');
+}
+
+// One damage from a place on.
+static void damage(size_t first)
+{
+    if (record_length <= first) return;
+    size_t left = record_length - first, at = first + below(left), how = below(9);
+    left = record_length - at;
+    if (how < 3) record[at] = some_byte();
+    else if (how == 3) insert_byte(at, some_byte());
+    else if (how == 4) remove_bytes(at, 1);
+    else if (how == 5) remove_bytes(at, to_line_end(at));
+    else if (how == 6) remove_bytes(at, below(left < 20 ? left : 20));
+    else if (how == 7) insert_zeros(at);
+    else record_length = one_in(4) ? at : record_length - 1;
+}
+
+void damaged_records(size_t count, void (*hold)(size_t piece))
+{
+    for (size_t i = 0; i < count && !failed; i++) {
+        progress(i, count);
+        random_record();
+        for (size_t k = 1 + below(one_in(4) ? 20 : 3); k > 0; k--) damage(i % 8 ? NAMES : 0);
+        hold(0);
+    }
+}
+
+void noisy_records(size_t count, void (*hold)(size_t piece))
+{
+    for (size_t i = 0; i < count && !failed; i++) {
+        progress(i, count);
+        start_record();
+        if (one_in(10)) record_length = below(NAMES + 1);
+        for (size_t k = below(4000); k > 0; k--) {
+            uint8_t byte = some_byte();
+            if (one_in(4)) add_update((Update){"ETC"[below(3)], below(5), below(5)});
+            add_bytes(&byte, 1);
+        }
+        hold(0);
+    }
+}
+
+// ---- lines at the edges
+
+static const char *const awkward[] = {
+    "", " ", "\r", "-", "E", "T", "C", "0", "E ", "E 0", "E 0 ", "T 0", "T 0 ", "E 0 1\r", "T 0 -\r", "E 0\r1", "\rE 0 1", "E  0 1",
+    "E 0  1", " E 0 1", "E 0 1 ", "E 0 1 2", "E\t0 1", "E 0\t1", "T  0 -", "T 0  -", "T 0 - ", " T 0 -", "T 0 --", "T 0 0", "C 0 0",
+    "T - -", "C - 0", "E 0 -", "E - 0", "E - -", "e 0 1", "t 0 -", "c 0 -", "X 0 1", "X 0 -", "EE 0 1", "E0 1", "T0 -", "E 01", "E 00 1",
+    "E 0 01", "T 00 -", "C 01 -", "E 0 00", "T 007 -", "E +0 1", "E -0 1", "E 0 +1", "E 0x0 1", "E 0 1.", "E 0, 1", "E 1e1 0", "E a b",
+    "E 2047 2047", "E 2048 0", "E 0 2048", "T 2048 -", "C 2048 -", "T 2047 -", "C 2047 -", "E 65535 65535", "E 65535 0", "E 0 65535",
+    "T 65535 -", "C 65535 -", "E 65536 0", "E 0 65536", "T 65536 -", "C 65536 -", "E 65537 1", "E 65540 1", "E 99999 1", "E 1 99999",
+    "E 70000 70000", "T 100000 -", "E 131072 1", "T 4294967296 -", "E 4294967296 1", "E 1 4294967297", "T 18446744073", "E 655350 1",
+    "E 1 655350", "E 000 1", "E 65535 65535 ", "E 65535 65535  ", "E 65535 65535   ", "E 65535 65535    ", "E 00065535 65535",
+    "E 000065535 65535", "T 0 -            ", "T 0 -           ", "T 0 -          ", "0123456789abcde", "0123456789abcdef",
+    "0123456789abcdefg", "kind from to", "kind from to ", "KIND FROM TO", "E 1 2E 1 2", "T 1 -T 1 -", "E 0 1#", "\xef\xbb\xbf" "E 0 1",
+    "E 0 1\xc2\xa0", "E\xc2\xa0" "0 1", "\x7f", "\xff", "E \xff 1", "E 0 \x80", "D 0 -", "F 0 1", "B 0 -", "S 0 -", "U 0 -", "E 0 /",
+    "E 0 :", "E / 0", "E : 0", "T 0 ,", "T 0 .", "T 0 _", "T 1 - E 1 2", "end open 0", "5 dead 0", "EOF", "\x1a", "\x04",
+};
+
+enum { AWKWARD = sizeof awkward / sizeof *awkward };
+
+// Each line alone, ended by a newline or not; then all of them in one record.
+void awkward_records(void (*hold)(size_t piece))
+{
+    for (size_t i = 0; i < 2 * AWKWARD && !failed; i++) {
+        start_record();
+        add("E 0 1\n%s%s", awkward[i / 2], i % 2 ? "" : "\nT 1 -\n");
+        hold(0);
+    }
+    for (size_t last = 0; last < 2; last++) {
+        start_record();
+        for (size_t i = 0; i < AWKWARD; i++) add("%s\nE %zu %zu\n", awkward[i], i, i + 1);
+        record_length -= last;
+        hold(0);
+    }
+}
+
+// ---- the names line
+
+static const char *const other_beginnings[] = {
+    "\n", "\n\n", "\nkind from to\n", "kind from to\r\nT 0 -\n", "kind from to \n", " kind from to\n", "Kind from to\n", "kind  from to\n",
+    "kind from t\n", "kind from too\n", "kind from to kind\n", "kind from to kind\nT 0 -\n", "kind\nfrom\nto\n", "T 0 -\n",
+    "T 0 -\nkind from to\n", "from to kind\n", "kind,from,to\n", "\xef\xbb\xbfkind from to\n", "kind from to\n\n", "kind from to\n\n\n",
+    "kind from to\nkind from to\n", "kind from to\r", "kind from to\n\r",
+};
+
+enum { OTHER_BEGINNINGS = sizeof other_beginnings / sizeof *other_beginnings };
+
+void beginnings(void (*hold)(size_t piece))
+{
+    start_record();
+    add("T 0 -\nE 1 0\nC 1 -\n");
+    for (size_t whole = record_length; record_length > 0 && !failed; record_length--) hold(whole % 2);
+    hold(0), hold(1);
+    for (size_t i = 0; i < OTHER_BEGINNINGS && !failed; i++) {
+        record_length = 0;
+        add("%s", other_beginnings[i]);
+        for (; record_length > 0 && !failed; record_length--) hold(0);
+    }
+    for (size_t i = 0; i <= NAMES && !failed; i++) {
+        start_record();
+        add("E 0 1\nT 1 -\n");
+        record[i] = 0;
+        hold(0);
+    }
+}
+
+// ---- many lines, and long ones
+
+static void add_shape(Shape shape)
+{
+    if (shape == TERMINALS) add("T 7 -\n");
+    else if (shape == BLANK) add("\n");
+    else if (shape == MALFORMED) add("E 1 2 \n");
+    else if (one_in(3)) add("%s\n", awkward[below(AWKWARD)]);
+    else add_lines(1, 1 + below(2048), 0);
+}
+
+void lines_record(size_t lines, Shape shape, const char *last, size_t newline)
+{
+    start_record();
+    for (size_t i = 2; i < lines; i++) add_shape(shape);
+    add("%s", last);
+    if (newline) add("\n");
+}
+
+void many_lines(size_t count, void (*hold)(size_t piece))
+{
+    static const char *const last[] = {"T 0 -", "", "E 1 2 ", "T 1 -x 2 3 4 5 6 7 8 9"};
+    for (size_t i = 0; i < 16 + count && !failed; i++) {
+        size_t lines = MOST_LINES - 1 + i % 4;
+        progress(i, 16 + count);
+        if (i < 16) lines_record(lines, TERMINALS, last[i / 4], i / 4 == 1 || one_in(2));
+        else lines_record(lines, (Shape)(1 + i / 4 % 3), last[below(4)], one_in(2));
+        hold(0);
+    }
+}
+
+// Bytes without a newline: as the names line, or as a later line, with and without lines behind it.
+void long_lines(void (*hold)(size_t piece))
+{
+    static const uint8_t of[] = {'0', ' ', 0, '\r', 'E', 255};
+    for (size_t i = 0; i < 12 && !failed; i++) {
+        progress(i, 12);
+        record_length = 0;
+        if (i >= 3) add("kind from to\nE 0 1\n");
+        if (i >= 6) add("T 1 -\n");
+        if (i >= 8) add("E 65535 65535");
+        add_run(of[i % 6], i % 3 == 0 ? LONGEST : 65536 * i);
+        if (i % 2) add("\nE 2 3\nC 2 -\nC 3 -\nC 3 -");
+        hold(0);
+    }
+    for (size_t bytes = 1; bytes < 80 && !failed; bytes++) {
+        start_record();
+        add("E 0 "), add_run('0', bytes), add("\nT 0 -\n"), add_run('1', bytes), add("\n"), add_run(' ', bytes);
+        hold(0);
+    }
+}
+
+// ---- records that come in pieces
+
+void records_in_pieces(size_t count, void (*hold)(size_t piece))
+{
+    for (size_t i = 0; i < count && !failed; i++) {
+        size_t pieces[] = {1, 2, 3, 1 + below(20), 15, 16, 17, 1 + below(100), 1 + below(PIECE_MOST), PIECE_MOST};
+        progress(i, count);
+        random_record();
+        for (size_t k = below(4); k > 0; k--) damage(0);
+        size_t piece = pieces[below(10)], least = record_length / 200;
+        hold(piece > least ? piece : 1 + least);
+    }
+}
+
+// Lines across the places where a program that reads by 65,536 bytes would cut, by every distance.
+void cut_lines(void (*hold)(size_t piece))
+{
+    for (size_t i = 0; i < 40 && !failed; i++) {
+        start_record();
+        for (size_t cut = 65536; cut < 4 * 65536; cut += 65536) {
+            add_run('x', cut - record_length - 45 + i);
+            add("\nE %zu 345\nT 345 -\nE 0 12\nC 12 -\nX\nE 7 12\n\nC 345 -\nC 7 -\n", cut / 65536);
+        }
+        hold(0);
+    }
+}

@@ -1,0 +1,39 @@
+// Records in the making: the record in hand, and series of records, valid, damaged, and of the shapes at the edges.
+#ifndef MAKING_H
+#define MAKING_H
+
+#include "reference.h"
+
+enum { LONGEST = 10 * 1000 * 1000, RECORD_ROOM = LONGEST + 1000000, NAMES = 13, MOST_LINES = 65535 };
+
+extern uint8_t record[RECORD_ROOM];
+extern size_t record_length;
+
+// Starts the record in hand with its names line; adds bytes, a text, one byte many times, an update's line.
+void start_record(void);
+void add_bytes(const void *bytes, size_t count);
+__attribute__((format(printf, 1, 2))) void add(const char *format, ...);
+void add_run(uint8_t byte, size_t count);
+void add_update(Update u);
+
+// Makes the record in hand one of so many lines, of which the last is the one given, with its newline or without.
+typedef enum { TERMINALS, BLANK, MALFORMED, MIXED } Shape;
+void lines_record(size_t lines, Shape shape, const char *last, size_t newline);
+
+// Shows the record in hand, where a check fails.
+void show_record(void);
+
+// Series: each record is handed over with the most bytes of the pieces in which it is to come, 0 for a file. They end where a check has
+// failed.
+void valid_records(size_t count, void (*hold)(size_t piece));
+void full_records(size_t count, void (*hold)(size_t piece));       // up to the step limit and past it
+void damaged_records(size_t count, void (*hold)(size_t piece));
+void noisy_records(size_t count, void (*hold)(size_t piece));      // lines of random bytes
+void awkward_records(void (*hold)(size_t piece));                  // lines at the edges of the grammar
+void beginnings(void (*hold)(size_t piece));                       // the empty record among them, and names lines that are not exact
+void many_lines(size_t count, void (*hold)(size_t piece));         // 65,534 to 65,537
+void long_lines(void (*hold)(size_t piece));                       // of up to ten million bytes
+void records_in_pieces(size_t count, void (*hold)(size_t piece));
+void cut_lines(void (*hold)(size_t piece));                        // across the cuts of large reads
+
+#endif
