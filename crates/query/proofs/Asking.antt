@@ -37,7 +37,7 @@ use Rattle.reader.proofs.Following.{applies-same, applies-then, items-then, app
 use Rattle.reader.proofs.Whole.{orRefused}
 use Rattle.reader.proofs.Refusing.{Decided, decides, stops-then}
 use Rattle.query.proofs.Numbers.{open-few}
-use Rattle.query.specs.Answering.{orLine, answerAfter, answerOn, historyUpTo, StatusAfter, isRefused, refusedOr}
+use Rattle.query.specs.Answering.{orLine, answerAfter, answerOf, answerOn, historyUpTo, StatusAfter, isRefused, refusedOr}
 
 -- what decides, by the answer that ended the reading
 line-answer : (o : LineAnswer) (b : ℕ) → refusedOr o b ≡ orLine (orRefused o none) b
@@ -150,3 +150,8 @@ module _ (bytes : List ℕ) {s : ℕ} (below : s < maxStates) {t t₁ : Tables} 
             let z = applies-stands (ready-stands opens ready) applied in
             let b : getD (t₃ .status) s 0 ≡ status (historyOf recordLimit bytes) s = z .fits .status s (omega (arith, z .states)) ∙ ap (λ (x : List Item). status (afterItems recordLimit [] x) s) (sym told) in
             asks-lines applied decided (ap (refusedOr o₂) b ∙ line-answer o₂ (status (historyOf recordLimit bytes) s) ∙ ap (λ (x : Option Refusal). orLine x (status (historyOf recordLimit bytes) s)) (sym (decided .refusal)))
+
+-- On tables that are long enough the answer is that of the record alone.
+pub answer-opened : (t : Tables) (bytes : List ℕ) (s : ℕ) → openRefusal recordLimit t ≡ none → answerOn t bytes s ≡ answerOf bytes s
+unfolding answerOn answerOf
+answer-opened t bytes s e = rw e
