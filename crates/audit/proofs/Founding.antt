@@ -54,8 +54,8 @@ abbrev closedOf : Tables → ℕ → Bool
 closedOf t s = hasClosed (getD (t .marks) s 0)
 
 -- The history of the tables.
-abbrev pub historyOf : Graph → Tables → History
-historyOf g t = canonical (g .n) (g .steps) (t .from) (t .to) (terminalOf t) (closedOf t)
+abbrev pub canonicalOf : Graph → Tables → History
+canonicalOf g t = canonical (g .n) (g .steps) (t .from) (t .to) (terminalOf t) (closedOf t)
 
 -- The steps, chained by their targets.
 abbrev intoOf : Graph → Tables → Arcs
@@ -69,29 +69,29 @@ module _ (g : Graph) (t : Tables) (f : TableFacts (g .n) (g .steps) t) where
   step p h = decides-step (g .n) (t .status) (t .marks) (getD (t .from) p 0) (getD (t .to) p 0) .sound (f .steps p h)
 
   -- The steps, marks and closes of the history, as the tables have them.
-  has-step : {a b : ℕ} → IsStep (historyOf g t) a b → (p : ℕ) × (p < g .steps) × (getD (t .from) p 0 ≡ a) × (getD (t .to) p 0 ≡ b)
+  has-step : {a b : ℕ} → IsStep (canonicalOf g t) a b → (p : ℕ) × (p < g .steps) × (getD (t .from) p 0 ≡ a) × (getD (t .to) p 0 ≡ b)
   has-step = step-canonical (g .n) (g .steps) (t .from) (t .to) (terminalOf t) (closedOf t)
 
-  has-terminal : {s : ℕ} → IsTerminal (historyOf g t) s → (s < g .n) × (terminalOf t s ≡ true)
+  has-terminal : {s : ℕ} → IsTerminal (canonicalOf g t) s → (s < g .n) × (terminalOf t s ≡ true)
   has-terminal = terminal-canonical (g .n) (g .steps) (t .from) (t .to) (terminalOf t) (closedOf t)
 
-  has-closed : {s : ℕ} → IsClosed (historyOf g t) s → (s < g .n) × (closedOf t s ≡ true)
+  has-closed : {s : ℕ} → IsClosed (canonicalOf g t) s → (s < g .n) × (closedOf t s ≡ true)
   has-closed = closed-canonical (g .n) (g .steps) (t .from) (t .to) (terminalOf t) (closedOf t)
 
-  is-step : (p : ℕ) → p < g .steps → IsStep (historyOf g t) (getD (t .from) p 0) (getD (t .to) p 0)
+  is-step : (p : ℕ) → p < g .steps → IsStep (canonicalOf g t) (getD (t .from) p 0) (getD (t .to) p 0)
   is-step = canonical-step (g .n) (g .steps) (t .from) (t .to) (terminalOf t) (closedOf t)
 
-  is-terminal : (s : ℕ) → s < g .n → terminalOf t s ≡ true → IsTerminal (historyOf g t) s
+  is-terminal : (s : ℕ) → s < g .n → terminalOf t s ≡ true → IsTerminal (canonicalOf g t) s
   is-terminal = canonical-terminal (g .n) (g .steps) (t .from) (t .to) (terminalOf t) (closedOf t)
 
-  is-closed : (s : ℕ) → s < g .n → closedOf t s ≡ true → IsClosed (historyOf g t) s
+  is-closed : (s : ℕ) → s < g .n → closedOf t s ≡ true → IsClosed (canonicalOf g t) s
   is-closed = canonical-closed (g .n) (g .steps) (t .from) (t .to) (terminalOf t) (closedOf t)
 
   -- Its named states are those with the mark.
-  has-named : {s : ℕ} → IsNamed (historyOf g t) s → (s < g .n) × (hasNamed (getD (t .marks) s 0) ≡ true)
+  has-named : {s : ℕ} → IsNamed (canonicalOf g t) s → (s < g .n) × (hasNamed (getD (t .marks) s 0) ≡ true)
   has-named {s} (x, q, e) = at x q e
     where
-      at : (y : Update) → Has (historyOf g t) y → Mentions y s → (s < g .n) × (hasNamed (getD (t .marks) s 0) ≡ true)
+      at : (y : Update) → Has (canonicalOf g t) y → Mentions y s → (s < g .n) × (hasNamed (getD (t .marks) s 0) ≡ true)
       at (Step u v) k (inl z) = let r = has-step k in let w = step (r .0) (r .1) in rw (← z, ← (r .2)) (w .source, w .sourceNamed)
       at (Step u v) k (inr z) = let r = has-step k in let w = step (r .0) (r .1) in rw (← z, ← (r .3)) (w .target, w .targetNamed)
       at (Terminal u) k z = let r = has-terminal k in rw (← z) (r .0, named (state u (r .0) .suited) (suited-terminal (state u (r .0) .suited) (r .1)))
@@ -104,55 +104,55 @@ module _ (g : Graph) (t : Tables) (f : TableFacts (g .n) (g .steps) t) where
           named (as-live c d i) l = i
       at (Close u) k z = let r = has-closed k in rw (← z) (r .0, suited-closed (state u (r .0) .suited) (r .1))
 
-  is-named : (s : ℕ) → s < g .n → hasNamed (getD (t .marks) s 0) ≡ true → IsNamed (historyOf g t) s
+  is-named : (s : ℕ) → s < g .n → hasNamed (getD (t .marks) s 0) ≡ true → IsNamed (canonicalOf g t) s
   unfolding bits
   is-named s h e = at (terminalOf t s) (closedOf t s) refl refl
     where
       -- with no other mark, one of the lists is not empty
-      ends-here : getD (t .marks) s 0 ≡ 1 → Dec (getD (t .inHead) s 0 ≡ 0) → Dec (getD (t .outHead) s 0 ≡ 0) → IsNamed (historyOf g t) s
+      ends-here : getD (t .marks) s 0 ≡ 1 → Dec (getD (t .inHead) s 0 ≡ 0) → Dec (getD (t .outHead) s 0 ≡ 0) → IsNamed (canonicalOf g t) s
       ends-here one (yes i) (yes o) = absurd (state s h .named one i o)
       ends-here one (no i) k = let r = last-step (t .to) (g .steps) s (λ z. i (f .into .heads s h ∙ z)) in (Step _ _, is-step (r .0) (r .1), inr (r .2))
       ends-here one (yes i) (no o) = let r = last-step (t .from) (g .steps) s (λ z. o (f .outOf .heads s h ∙ z)) in (Step _ _, is-step (r .0) (r .1), inl (r .2))
 
-      at : (a b : Bool) → terminalOf t s ≡ a → closedOf t s ≡ b → IsNamed (historyOf g t) s
+      at : (a b : Bool) → terminalOf t s ≡ a → closedOf t s ≡ b → IsNamed (canonicalOf g t) s
       at true b p q = (Terminal s, is-terminal s h p, refl)
       at false true p q = (Close s, is-closed s h q, refl)
       at false false p q =
           ends-here (sym (byte-sum (getD (t .marks) s 0) (suited-low (state s h .suited))) ∙ rw (e, p, q)) (ℕ-discrete (getD (t .inHead) s 0) 0) (ℕ-discrete (getD (t .outHead) s 0) 0)
 
-  marks-given : (s : ℕ) → s < g .n → getD (t .marks) s 0 ≡ marksOf (historyOf g t) s
+  marks-given : (s : ℕ) → s < g .n → getD (t .marks) s 0 ≡ marksOf (canonicalOf g t) s
   unfolding marksOf bits
   marks-given s h =
       rw (
-        same-test (isNamed (historyOf g t) s) (hasNamed (getD (t .marks) s 0)) (decides-named (historyOf g t) s) (decides-same (hasNamed (getD (t .marks) s 0))) (λ q. has-named q .1) (is-named s h),
-        same-test (isTerminal (historyOf g t) s) (terminalOf t s) (decides-terminal (historyOf g t) s) (decides-same (terminalOf t s)) (λ q. has-terminal q .1) (is-terminal s h),
-        same-test (isClosed (historyOf g t) s) (closedOf t s) (decides-closed (historyOf g t) s) (decides-same (closedOf t s)) (λ q. has-closed q .1) (is-closed s h),
+        same-test (isNamed (canonicalOf g t) s) (hasNamed (getD (t .marks) s 0)) (decides-named (canonicalOf g t) s) (decides-same (hasNamed (getD (t .marks) s 0))) (λ q. has-named q .1) (is-named s h),
+        same-test (isTerminal (canonicalOf g t) s) (terminalOf t s) (decides-terminal (canonicalOf g t) s) (decides-same (terminalOf t s)) (λ q. has-terminal q .1) (is-terminal s h),
+        same-test (isClosed (canonicalOf g t) s) (closedOf t s) (decides-closed (canonicalOf g t) s) (decides-same (closedOf t s)) (λ q. has-closed q .1) (is-closed s h),
       )
       (sym (byte-sum (getD (t .marks) s 0) (suited-low (state s h .suited))))
 
   -- a step backwards of a search is a step of the history
-  search-step : {ok : ℕ → ℕ → Bool} {u v i s : ℕ} → u < g .n → Reached (intoOf g t) ok u v → Linked (t .inHead) (t .inNext) (g .steps) v i → s ≡ getD (t .from) i 0 → IsStep (historyOf g t) s v × (getD (t .to) i 0 ≡ v)
+  search-step : {ok : ℕ → ℕ → Bool} {u v i s : ℕ} → u < g .n → Reached (intoOf g t) ok u v → Linked (t .inHead) (t .inNext) (g .steps) v i → s ≡ getD (t .from) i 0 → IsStep (canonicalOf g t) s v × (getD (t .to) i 0 ≡ v)
   search-step {v = v} {i = i} h r l e =
       let k = linked (f .into) v (reached-range h r) i .0 l in
       (rw (← e, k .1) at (is-step i (k .0)), k .1)
 
   -- The live states are those with the status live.
-  has-live : {s : ℕ} → Live (historyOf g t) s → (s < g .n) × (getD (t .status) s 0 ≡ statusLive)
+  has-live : {s : ℕ} → Live (canonicalOf g t) s → (s < g .n) × (getD (t .status) s 0 ≡ statusLive)
   has-live =
       live-least (λ s. (s < g .n) × (getD (t .status) s 0 ≡ statusLive))
       (λ s q. let r = has-terminal q in (r .0, suited-terminal (state s (r .0) .suited) (r .1)))
       (λ u v q l. let r = has-step q in let w = step (r .0) (r .1) in rw (← (r .2)) (w .source, w .lives (rw (r .3) (l .1))))
 
-  is-live : (s : ℕ) → s < g .n → getD (t .status) s 0 ≡ statusLive → Live (historyOf g t) s
+  is-live : (s : ℕ) → s < g .n → getD (t .status) s 0 ≡ statusLive → Live (canonicalOf g t) s
   unfolding starts
   is-live s h e = let b = f .lives s h e in spread (b .1) (live-terminal (is-terminal (b .0) (b .1) (b .2))) (b .3)
     where
-      spread : {u w : ℕ} → u < g .n → Live (historyOf g t) u → Reached (intoOf g t) (allowed Claimed (t .status) (t .successor)) u w → Live (historyOf g t) w
+      spread : {u w : ℕ} → u < g .n → Live (canonicalOf g t) u → Reached (intoOf g t) (allowed Claimed (t .status) (t .successor)) u w → Live (canonicalOf g t) w
       spread k l (start z) = rw z l
       spread k l (back r i z b o) = live-source (search-step k r i z .0) (spread k l r)
 
   -- Those with the status dead are dead.
-  is-dead : (s : ℕ) → s < g .n → getD (t .status) s 0 ≡ statusDead → DeadByReach (historyOf g t) s
+  is-dead : (s : ℕ) → s < g .n → getD (t .status) s 0 ≡ statusDead → DeadByReach (canonicalOf g t) s
   is-dead s h e =
       dead-greatest (λ r. (r < g .n) × (getD (t .status) r 0 ≡ statusDead))
       (λ r q. is-closed r (q .0) (shut (state r (q .0) .suited) (q .1)))
@@ -168,7 +168,7 @@ module _ (g : Graph) (t : Tables) (f : TableFacts (g .n) (g .steps) t) where
       shut (as-live c d i) l = absurd (omega arith)
 
   -- an open state is not closed
-  unclosed : (s : ℕ) → s < g .n → getD (t .status) s 0 ≡ statusOpen → IsClosed (historyOf g t) s → ⊥
+  unclosed : (s : ℕ) → s < g .n → getD (t .status) s 0 ≡ statusOpen → IsClosed (canonicalOf g t) s → ⊥
   unclosed s h e q = at (state s h .suited) e (has-closed q .1)
     where
       at : {a b : ℕ} → Suited a b → a ≡ statusOpen → hasClosed b ≡ true → ⊥
@@ -184,32 +184,32 @@ module _ (g : Graph) (t : Tables) (f : TableFacts (g .n) (g .steps) t) where
   from-open s e = eqb-true (getD (t .status) s 0) statusOpen e
 
   -- An unknown state is not dead: its successors lead to an open one.
-  undead : (s : ℕ) → s < g .n → getD (t .status) s 0 ≡ statusUnknown → DeadByReach (historyOf g t) s → ⊥
+  undead : (s : ℕ) → s < g .n → getD (t .status) s 0 ≡ statusUnknown → DeadByReach (canonicalOf g t) s → ⊥
   undead s h e d = let b = f .escapes s h e in unclosed (b .0) (b .1) (from-open (b .0) (b .2)) (dead-closed (spread (b .1) (b .3) d))
     where
-      spread : {u w : ℕ} → u < g .n → Reached (intoOf g t) (allowed Tree (t .status) (t .successor)) u w → DeadByReach (historyOf g t) w → DeadByReach (historyOf g t) u
+      spread : {u w : ℕ} → u < g .n → Reached (intoOf g t) (allowed Tree (t .status) (t .successor)) u w → DeadByReach (canonicalOf g t) w → DeadByReach (canonicalOf g t) u
       spread k (start z) q = rw z at q
       spread k (back r i z b o) q = spread k r (dead-target (search-step k r i z .0) q)
 
-  statuses-given : (s : ℕ) → s < g .n → getD (t .status) s 0 ≡ status (historyOf g t) s
+  statuses-given : (s : ℕ) → s < g .n → getD (t .status) s 0 ≡ status (canonicalOf g t) s
   statuses-given s h = at (state s h .suited) refl refl
     where
-      named : {b : ℕ} → getD (t .marks) s 0 ≡ b → hasNamed b ≡ true → IsNamed (historyOf g t) s
+      named : {b : ℕ} → getD (t .marks) s 0 ≡ b → hasNamed b ≡ true → IsNamed (canonicalOf g t) s
       named e q = is-named s h (rw e q)
 
-      shut : {b : ℕ} → getD (t .marks) s 0 ≡ b → hasClosed b ≡ true → IsClosed (historyOf g t) s
+      shut : {b : ℕ} → getD (t .marks) s 0 ≡ b → hasClosed b ≡ true → IsClosed (canonicalOf g t) s
       shut e q = is-closed s h (rw e q)
 
       -- a state with another status is not live
-      unlive : {k : ℕ} → getD (t .status) s 0 ≡ k → (k ≡ statusLive → ⊥) → Live (historyOf g t) s → ⊥
+      unlive : {k : ℕ} → getD (t .status) s 0 ≡ k → (k ≡ statusLive → ⊥) → Live (canonicalOf g t) s → ⊥
       unlive e n l = n (sym e ∙ has-live l .1)
 
-      at : {k b : ℕ} → Suited k b → getD (t .status) s 0 ≡ k → getD (t .marks) s 0 ≡ b → k ≡ status (historyOf g t) s
-      at (as-unseen k b) p q = k ∙ sym (status-unseen (historyOf g t) s .1 (λ m. false≢true (rw (q, b) at (has-named m .1))))
-      at (as-open k b) p q = k ∙ sym (status-open (historyOf g t) s .1 (named (q ∙ b) refl, unclosed s h (p ∙ k), unlive (p ∙ k) (λ z. absurd (omega arith))))
-      at (as-unknown k b) p q = k ∙ sym (status-unknown-by-reach (historyOf g t) s .1 (shut (q ∙ b) refl, unlive (p ∙ k) (λ z. absurd (omega arith)), undead s h (p ∙ k)))
-      at (as-dead k b) p q = k ∙ sym (status-dead-by-reach (historyOf g t) s .1 (is-dead s h (p ∙ k)))
-      at (as-live k l b) p q = k ∙ sym (status-live (historyOf g t) s .1 (is-live s h (p ∙ k)))
+      at : {k b : ℕ} → Suited k b → getD (t .status) s 0 ≡ k → getD (t .marks) s 0 ≡ b → k ≡ status (canonicalOf g t) s
+      at (as-unseen k b) p q = k ∙ sym (status-unseen (canonicalOf g t) s .1 (λ m. false≢true (rw (q, b) at (has-named m .1))))
+      at (as-open k b) p q = k ∙ sym (status-open (canonicalOf g t) s .1 (named (q ∙ b) refl, unclosed s h (p ∙ k), unlive (p ∙ k) (λ z. absurd (omega arith))))
+      at (as-unknown k b) p q = k ∙ sym (status-unknown-by-reach (canonicalOf g t) s .1 (shut (q ∙ b) refl, unlive (p ∙ k) (λ z. absurd (omega arith)), undead s h (p ∙ k)))
+      at (as-dead k b) p q = k ∙ sym (status-dead-by-reach (canonicalOf g t) s .1 (is-dead s h (p ∙ k)))
+      at (as-live k l b) p q = k ∙ sym (status-live (canonicalOf g t) s .1 (is-live s h (p ∙ k)))
 
   successors-given : SuccessorRule (g .n) (g .steps) (λ s. getD (t .status) s 0) (λ p. getD (t .from) p 0) (λ p. getD (t .to) p 0) (λ s. getD (t .successor) s 0)
   successors-given =
@@ -227,7 +227,7 @@ module _ (g : Graph) (t : Tables) (f : TableFacts (g .n) (g .steps) t) where
           (suc (c .0), chain-follows {k = c .0} (b, eqb-true (getD (t .status) w 0) statusUnknown (y .0)) (rw next (c .1)))
 
   -- The canonical history gives the tables.
-  pub founded : g .steps ≤ length (t .from) → g .steps ≤ length (t .to) → Consistent (historyOf g t) g t
+  pub founded : g .steps ≤ length (t .from) → g .steps ≤ length (t .to) → Consistent (canonicalOf g t) g t
   founded inFrom inTo =
       let sources = canonical-sources (g .n) (g .steps) (t .from) (t .to) (terminalOf t) (closedOf t) inFrom inTo in
       record {

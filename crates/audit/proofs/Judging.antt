@@ -25,13 +25,13 @@ use Rattle.audit.specs.Parts.{Below, ListFits, Answered, Claims, Judged}
 use Rattle.audit.specs.Audited.{auditRefusal, Audited}
 use Rattle.audit.proofs.Reading.{StepFacts, decides-state, decides-step}
 use Rattle.audit.proofs.Canonical.{canonical-legal}
-use Rattle.audit.proofs.Founding.{historyOf, founded}
+use Rattle.audit.proofs.Founding.{canonicalOf, founded}
 use Rattle.audit.proofs.Meeting.{met}
 
 -- Tables fit exactly where the facts hold: "some legal history gives" them.
 pub facts-fit : (g : Graph) (t : Tables) → g .steps ≤ length (t .from) → g .steps ≤ length (t .to) → TableFacts (g .n) (g .steps) t ↔ Fits g t
 facts-fit g t a b = (
-  λ f. (historyOf g t, canonical-legal (g .n) (g .steps) (t .from) (t .to) (λ s. hasTerminal (getD (t .marks) s 0)) (λ s. hasClosed (getD (t .marks) s 0)), founded g t f a b),
+  λ f. (canonicalOf g t, canonical-legal (g .n) (g .steps) (t .from) (t .to) (λ s. hasTerminal (getD (t .marks) s 0)) (λ s. hasClosed (getD (t .marks) s 0)), founded g t f a b),
   λ q. met (q .2),
 )
 

@@ -112,10 +112,10 @@ decides-mentioned mark i o =
     of q (yes a) (yes b) = inr (inr (q a b))
 
 -- the successor p of the state s with the status k
-abbrev Follows : ℕ → List ℕ → ℕ → ℕ → ℕ → Type 0
-Follows m from s k p = (k ≡ statusUnknown → (p < m) × (getD from p 0 ≡ s)) × ((k ≡ statusUnknown → ⊥) → p ≡ noSuccessor)
+abbrev SuccessorSays : ℕ → List ℕ → ℕ → ℕ → ℕ → Type 0
+SuccessorSays m from s k p = (k ≡ statusUnknown → (p < m) × (getD from p 0 ≡ s)) × ((k ≡ statusUnknown → ⊥) → p ≡ noSuccessor)
 
-decides-successor : (m : ℕ) (from : List ℕ) (s k p : ℕ) → Decides (successorFits m from s k p) (Follows m from s k p)
+decides-successor : (m : ℕ) (from : List ℕ) (s k p : ℕ) → Decides (successorFits m from s k p) (SuccessorSays m from s k p)
 unfolding successorFits
 decides-successor m from s k p =
     decides-iff
@@ -124,11 +124,11 @@ decides-successor m from s k p =
     to
     (λ q. of q (ℕ-discrete k statusUnknown))
   where
-    to : ((k ≡ statusUnknown) × ((p < m) × (getD from p 0 ≡ s))) ⊎ ((k ≡ statusUnknown → ⊥) × (p ≡ noSuccessor)) → Follows m from s k p
+    to : ((k ≡ statusUnknown) × ((p < m) × (getD from p 0 ≡ s))) ⊎ ((k ≡ statusUnknown → ⊥) × (p ≡ noSuccessor)) → SuccessorSays m from s k p
     to (inl q) = (λ z. q .1, λ z. absurd (z (q .0)))
     to (inr q) = (λ z. absurd (q .0 z), λ z. q .1)
 
-    of : Follows m from s k p → Dec (k ≡ statusUnknown) → ((k ≡ statusUnknown) × ((p < m) × (getD from p 0 ≡ s))) ⊎ ((k ≡ statusUnknown → ⊥) × (p ≡ noSuccessor))
+    of : SuccessorSays m from s k p → Dec (k ≡ statusUnknown) → ((k ≡ statusUnknown) × ((p < m) × (getD from p 0 ≡ s))) ⊎ ((k ≡ statusUnknown → ⊥) × (p ≡ noSuccessor))
     of q (yes e) = inl (e, q .0 e)
     of q (no d) = inr (d, q .1 d)
 
@@ -137,7 +137,7 @@ pub record StateFacts (m : ℕ) (status marks from successor inHead outHead visi
   pub unvisited : marked visited s ≡ false
   pub suited : Suited (getD status s 0) (getD marks s 0)
   pub named : getD marks s 0 ≡ 1 → getD inHead s 0 ≡ 0 → getD outHead s 0 ≡ 0 → ⊥
-  pub follows : Follows m from s (getD status s 0) (getD successor s 0)
+  pub follows : SuccessorSays m from s (getD status s 0) (getD successor s 0)
 
 pub decides-state : (m : ℕ) (status marks from successor inHead outHead visited : List ℕ) (s : ℕ) → Decides (stateFits m status marks from successor inHead outHead visited s) (StateFacts m status marks from successor inHead outHead visited s)
 unfolding stateFits
@@ -160,10 +160,10 @@ pub record StepFacts (n : ℕ) (status marks : List ℕ) (u v : ℕ) : Type 0 wh
   pub lives : getD status v 0 ≡ statusLive → getD status u 0 ≡ statusLive
   pub deads : getD status u 0 ≡ statusDead → getD status v 0 ≡ statusDead
 
-abbrev Agrees : ℕ → ℕ → Type 0
-Agrees a b = (b ≡ statusLive → a ≡ statusLive) × (a ≡ statusDead → b ≡ statusDead)
+abbrev StatusesAgree : ℕ → ℕ → Type 0
+StatusesAgree a b = (b ≡ statusLive → a ≡ statusLive) × (a ≡ statusDead → b ≡ statusDead)
 
-decides-agrees : (a b : ℕ) → Decides (agrees a b) (Agrees a b)
+decides-agrees : (a b : ℕ) → Decides (agrees a b) (StatusesAgree a b)
 unfolding agrees
 decides-agrees a b =
     decides-iff
@@ -172,12 +172,12 @@ decides-agrees a b =
     to
     (λ q. of q (ℕ-discrete b statusLive) (ℕ-discrete a statusDead))
   where
-    to : ((b ≡ statusLive) × (a ≡ statusLive)) ⊎ ((b ≡ statusLive → ⊥) × (((a ≡ statusDead) × (b ≡ statusDead)) ⊎ ((a ≡ statusDead → ⊥) × (true ≡ true)))) → Agrees a b
+    to : ((b ≡ statusLive) × (a ≡ statusLive)) ⊎ ((b ≡ statusLive → ⊥) × (((a ≡ statusDead) × (b ≡ statusDead)) ⊎ ((a ≡ statusDead → ⊥) × (true ≡ true)))) → StatusesAgree a b
     to (inl (e, f)) = (λ z. f, λ z. absurd (omega arith))
     to (inr (d, inl (e, f))) = (λ z. absurd (d z), λ z. f)
     to (inr (d, inr (e, f))) = (λ z. absurd (d z), λ z. absurd (e z))
 
-    of : Agrees a b → Dec (b ≡ statusLive) → Dec (a ≡ statusDead) → ((b ≡ statusLive) × (a ≡ statusLive)) ⊎ ((b ≡ statusLive → ⊥) × (((a ≡ statusDead) × (b ≡ statusDead)) ⊎ ((a ≡ statusDead → ⊥) × (true ≡ true))))
+    of : StatusesAgree a b → Dec (b ≡ statusLive) → Dec (a ≡ statusDead) → ((b ≡ statusLive) × (a ≡ statusLive)) ⊎ ((b ≡ statusLive → ⊥) × (((a ≡ statusDead) × (b ≡ statusDead)) ⊎ ((a ≡ statusDead → ⊥) × (true ≡ true))))
     of q (yes e) f = inl (e, q .0 e)
     of q (no d) (yes f) = inr (d, inl (f, q .1 f))
     of q (no d) (no f) = inr (d, inr (f, refl))

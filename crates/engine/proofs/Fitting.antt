@@ -28,7 +28,7 @@ use Rattle.tables.specs.Tables.{Tables}
 use Rattle.tables.specs.Listing.{graphAfter}
 use Rattle.tables.specs.Work.{ListRule, marked}
 use Rattle.tables.specs.Fitting.{sources, marksOf, Consistent}
-use Rattle.tables.proofs.Listed.{Lists, step-in-list, list-has-step}
+use Rattle.tables.proofs.Listed.{ListsSteps, step-in-list, list-has-step}
 use Rattle.engine.specs.Effects.{marksAfter}
 use Rattle.engine.specs.Searches.{SearchTables, namesAfter, Revive, MakesLive, already, revives, Joins, apart, joins}
 use Rattle.engine.specs.Outcomes.{Right}
@@ -85,7 +85,7 @@ ends-named r a b m = (r a (Step a b, m, inl refl), r b (Step a b, m, inr refl))
 pub record Ready (h : History) (g : Graph) (x : Update) (t′ : Tables) : Type 0 where
   pub inRange : (s : ℕ) → IsNamed (x ∷ h) s → s < g .n
   pub marks : (s : ℕ) → s < g .n → getD (t′ .marks) s 0 ≡ marksOf (x ∷ h) s
-  pub lists : Lists (x ∷ h) (graphAfter g x .steps) (t′ .from) (t′ .to)
+  pub lists : ListsSteps (x ∷ h) (graphAfter g x .steps) (t′ .from) (t′ .to)
   pub into : ListRule (g .n) (graphAfter g x .steps) (t′ .to) (t′ .inHead) (t′ .inNext)
   pub outOf : ListRule (g .n) (graphAfter g x .steps) (t′ .from) (t′ .outHead) (t′ .outNext)
 

@@ -27,7 +27,7 @@ use Rattle.tables.specs.Refused.{given, refusalOn}
 use Rattle.tables.specs.Fitting.{Checked, Consistent, Fresh}
 use Rattle.tables.proofs.Bits.{closed-bit}
 use Rattle.tables.proofs.Keeping.{lengths-kept}
-use Rattle.tables.proofs.Refusing.{Passed, none-applies, first-none, accepted-passes}
+use Rattle.tables.proofs.Refusing.{NoneApply, none-applies, first-none, accepted-passes}
 use Rattle.tables.proofs.Starting.{fresh-consistent}
 use Rattle.engine.specs.declared.Answer.{Answer}
 use Rattle.engine.specs.declared.Answer.the-variants.{Accepted, Refused}
@@ -120,7 +120,7 @@ module _ {g₀ : Graph} {t₀ : Tables} where
       )) ∙
       none-applies (sent (given g (enough (needs (g .n) (g .limit) (lengths t))) (t .marks) (t .status)) x) (sents x r o)
     where
-      sents : (y : Update) → Sendable (g .n) (g .limit) (g .steps) y → (IsClosed h (source y) → ⊥) → Passed (sent (given g (enough (needs (g .n) (g .limit) (lengths t))) (t .marks) (t .status)) y)
+      sents : (y : Update) → Sendable (g .n) (g .limit) (g .steps) y → (IsClosed h (source y) → ⊥) → NoneApply (sent (given g (enough (needs (g .n) (g .limit) (lengths t))) (t .marks) (t .status)) y)
       sents (Step u v) q n = (
         rw (lt-leb (g .n) u (q .0)) (lt-leb (g .n) v (q .1)),
         (unmarked (s .fits) u (q .0) n, (undead (s .fits) u (q .0) n, (ne-eqb (g .steps) (g .limit) (λ z. absurd (omega (arith, q .2))), tt))),

@@ -6,6 +6,7 @@ use Prim.Native.Nat.{ℕ, _+_, _≤_}
 use lib.ListN.{length, set}
 use Rattle.gid.specs.declared.Update.{Update}
 use Rattle.gid.specs.declared.Update.the-variants.{Step, Terminal, Close}
+use Rattle.gid.specs.Refusals.{maxStates, maxSteps}
 use Rattle.tables.specs.Tables.{Tables, Long}
 use Rattle.adjacency.specs.Walks.{Pushed}
 use Rattle.engine.specs.Effects.{marksAfter}
@@ -52,8 +53,8 @@ pub data Done (n m : ℕ) (t t′ : Tables) (k : ℕ) : Update → Type 0 where
 
 -- What the tests 1 to 4 leave to an update.
 pub record Room (n limit m : ℕ) (t : Tables) : Type 0 where
-  pub states : n ≤ 2048
-  pub bound : limit ≤ 8192
+  pub states : n ≤ maxStates
+  pub bound : limit ≤ maxSteps
   pub steps : m ≤ limit
   pub news : n ≤ length (t .news)
   pub long : Long n limit t

@@ -3,6 +3,7 @@ ghost use mathlib.Core.Path.{_≡_};
 ghost use Prim.Native.Nat.{_+_, _≤_, _<_};
 ghost use lib.ListN.{length};
 ghost use Rattle.gid.specs.declared.Update.{Update};
+ghost use Rattle.gid.specs.Refusals.{maxStates};
 ghost use Rattle.tables.specs.Marks.{withNamed};
 ghost use Rattle.search.specs.Spreading.{arcs, Walkable};
 ghost use Rattle.engine.specs.Effects.{markAt, nameAt, marksAfter};
@@ -153,7 +154,7 @@ fn step(
     visited: &mut [u16],
     in_next: &[u16],
 ) -> usize
-    requires { ⌜ (u < n) × (v < n) × (n ≤ 2048) ⌝ }
+    requires { ⌜ (u < n) × (v < n) × (n ≤ maxStates) ⌝ }
     requires { ⌜ Walkable (arcs n steps (now from) (now «in_head») (now «in_next»)) ⌝ }
     requires { ⌜ (n ≤ length (now status)) × (n ≤ length (now marks)) × (n ≤ length (now successor)) × (n ≤ length (now news)) ⌝ }
     requires { ⌜ (n ≤ length (now queue)) × (n ≤ length (now visited)) ⌝ }
@@ -193,7 +194,7 @@ fn terminal(
     visited: &mut [u16],
     in_next: &[u16],
 ) -> usize
-    requires { ⌜ (u < n) × (n ≤ 2048) ⌝ }
+    requires { ⌜ (u < n) × (n ≤ maxStates) ⌝ }
     requires { ⌜ Walkable (arcs n steps (now from) (now «in_head») (now «in_next»)) ⌝ }
     requires { ⌜ (n ≤ length (now status)) × (n ≤ length (now marks)) × (n ≤ length (now successor)) × (n ≤ length (now news)) ⌝ }
     requires { ⌜ (n ≤ length (now queue)) × (n ≤ length (now visited)) ⌝ }
@@ -230,7 +231,7 @@ fn make_live(
     visited: &mut [u16],
     in_next: &[u16],
 ) -> usize
-    requires { ⌜ (state < n) × (n ≤ 2048) ⌝ }
+    requires { ⌜ (state < n) × (n ≤ maxStates) ⌝ }
     requires { ⌜ Walkable (arcs n steps (now from) (now «in_head») (now «in_next»)) ⌝ }
     requires { ⌜ (n ≤ length (now status)) × (n ≤ length (now successor)) × (n ≤ length (now news)) ⌝ }
     requires { ⌜ (n ≤ length (now queue)) × (n ≤ length (now visited)) ⌝ }
@@ -273,7 +274,7 @@ fn close(
     in_next: &[u16],
     out_next: &[u16],
 ) -> usize
-    requires { ⌜ (u < n) × (n ≤ 2048) ⌝ }
+    requires { ⌜ (u < n) × (n ≤ maxStates) ⌝ }
     requires { ⌜ Walkable (arcs n steps (now from) (now «in_head») (now «in_next»)) ⌝ }
     requires { ⌜ Walkable (arcs n steps (now to) (now «out_head») (now «out_next»)) ⌝ }
     requires { ⌜ (n ≤ length (now status)) × (n ≤ length (now marks)) × (n ≤ length (now successor)) × (n ≤ length (now news)) ⌝ }
@@ -326,7 +327,7 @@ fn find_dead(
     in_next: &[u16],
     out_next: &[u16],
 ) -> usize
-    requires { ⌜ (u < n) × (n ≤ 2048) ⌝ }
+    requires { ⌜ (u < n) × (n ≤ maxStates) ⌝ }
     requires { ⌜ Walkable (arcs n steps (now from) (now «in_head») (now «in_next»)) ⌝ }
     requires { ⌜ Walkable (arcs n steps (now to) (now «out_head») (now «out_next»)) ⌝ }
     requires { ⌜ (n ≤ length (now status)) × (n ≤ length (now successor)) × (n ≤ length (now news)) ⌝ }

@@ -11,13 +11,13 @@ use Rattle.gid.specs.Histories.{History, Has, IsStep, IsTerminal, IsClos
 use Rattle.gid.specs.Verdicts.{Reaches, here, along, Live, Dead, DeadByReach}
 use Rattle.gid.specs.Statuses.{isClosed}
 use Rattle.gid.proofs.Decide.{decided}
-use Rattle.gid.proofs.Paths.{Within, path-within}
+use Rattle.gid.proofs.Paths.{Inside, path-within}
 use Rattle.gid.proofs.Tests.{decides-closed}
 
-pub live-within : {h g : History} → Within h g → {s : ℕ} → Live h s → Live g s
+pub live-within : {h g : History} → Inside h g → {s : ℕ} → Live h s → Live g s
 live-within i l = (l .0, path-within i (l .1), i _ (l .2))
 
-pub within-continued : {h g : History} → Continues h g → Within h g
+pub within-continued : {h g : History} → Continues h g → Inside h g
 within-continued {h} (k, e) x m = subst (λ (g : History). Has g x) (sym e) (Memᴰ·append-right k m)
 
 -- Verdicts stay: what is live stays live.

@@ -10,10 +10,10 @@ use Rattle.gid.specs.Histories.{History, Has, IsStep}
 use Rattle.gid.specs.Verdicts.{Reaches, here, along}
 
 -- every update of h is one of g's
-abbrev pub Within : History → History → Type 0
-Within h g = (x : Update) → Has h x → Has g x
+abbrev pub Inside : History → History → Type 0
+Inside h g = (x : Update) → Has h x → Has g x
 
-pub path-within : {h g : History} → Within h g → {u v : ℕ} → Reaches h u v → Reaches g u v
+pub path-within : {h g : History} → Inside h g → {u v : ℕ} → Reaches h u v → Reaches g u v
 path-within i here = here
 path-within i (along m p) = along (i _ m) (path-within i p)
 
@@ -21,7 +21,7 @@ pub join : {h : History} {u v w : ℕ} → Reaches h u v → Reaches h v w → R
 join here q = q
 join (along m p) q = along m (join p q)
 
-pub within-newer : {h : History} (y : Update) → Within h (y ∷ h)
+pub within-newer : {h : History} (y : Update) → Inside h (y ∷ h)
 within-newer y x m = List·Memᴰ·tail m
 
 -- a path that may use the newest step goes by older steps alone, or to its source and on from its target

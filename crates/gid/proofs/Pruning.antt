@@ -14,14 +14,14 @@ use Rattle.gid.specs.Statuses.{isLive, isDead, isClosed, isNamed, status
 use Rattle.gid.specs.News.{settles, news}
 use Rattle.gid.specs.Pruning.{Pruned, start, keep, leave, Agrees}
 use Rattle.gid.proofs.Decide.{decided, refuted, same-test}
-use Rattle.gid.proofs.Paths.{Within, path-within, within-newer, join}
+use Rattle.gid.proofs.Paths.{Inside, path-within, within-newer, join}
 use Rattle.gid.proofs.Tests.{decides-live, decides-dead, decides-closed, decides-named}
 use Rattle.gid.proofs.Deadness.{live-within, live-terminal, live-source, dead-closed, dead-target, dead-greatest, dead-not-live}
 use Rattle.gid.proofs.News.{below-same, below-none}
 
 -- What holds of the full history f and the pruned one p all along: p is part of f, what was sent from a state that is not live in f is in p, and what is live in f is live in p.
 pub record Keeps (f p : History) : Type 0 where
-  pub part : Within p f
+  pub part : Inside p f
   pub kept : (x : Update) → Has f x → (Live f (source x) → ⊥) → Has p x
   pub live : (s : ℕ) → Live f s → Live p s
 

@@ -2,6 +2,7 @@
 ghost use mathlib.Core.Path.{_≡_};
 ghost use Prim.Native.Nat.{ℕ, _≤_, _<_, _+_, _*_};
 ghost use lib.ListN.{length, getD};
+ghost use Rattle.gid.specs.Refusals.{maxStates, maxSteps};
 ghost use Rattle.gid.specs.Successors.{noSuccessor};
 ghost use Rattle.record.specs.Text.{WroteAt};
 ghost use Rattle.picture.specs.Picture.{line, node, stateText, statesText, stepText, stepsText, picture, pictureRoom};
@@ -28,7 +29,7 @@ pub fn put_picture(
     to: &[u16],
     successor: &[u16],
 ) -> usize
-    requires { ⌜ (m ≤ 8192) × (m ≤ length (now from)) × (m ≤ length (now to)) × (at + pictureRoom ≤ length (now buf)) ⌝ }
+    requires { ⌜ (m ≤ maxSteps) × (m ≤ length (now from)) × (m ≤ length (now to)) × (at + pictureRoom ≤ length (now buf)) ⌝ }
     ensures { λ r. ⌜ WroteAt at (picture m (now (status .entry)) (now (from .entry)) (now (to .entry)) (now (successor .entry))) (now (buf .entry)) (now (buf .exit)) r × (r ≤ at + pictureRoom) ⌝ }
 {
     let states = put_bytes_at(
@@ -43,8 +44,8 @@ pub fn put_picture(
 
 // The lines of the states, by rising state.
 fn put_states(buf: &mut [u8], at: usize, status: &[u8]) -> usize
-    requires { ⌜ at + 54 * 2048 ≤ length (now buf) ⌝ }
-    ensures { λ r. ⌜ WroteAt at (statesText 2048 (λ s. getD (now (status .entry)) s 0)) (now (buf .entry)) (now (buf .exit)) r × (r ≤ at + 54 * 2048) ⌝ }
+    requires { ⌜ at + 54 * maxStates ≤ length (now buf) ⌝ }
+    ensures { λ r. ⌜ WroteAt at (statesText maxStates (λ s. getD (now (status .entry)) s 0)) (now (buf .entry)) (now (buf .exit)) r × (r ≤ at + 54 * maxStates) ⌝ }
 {
     let mut end = at;
     let mut s = 0;

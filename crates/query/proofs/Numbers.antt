@@ -24,11 +24,11 @@ use Rattle.reader.specs.Turning.{lineAnswer, Came, sent as came, nothing, malfo
 use Rattle.reader.specs.Advancing.{Passed, Applies, next, Stops, found, ended, Advances}
 use Rattle.query.specs.Answering.{Few}
 
-abbrev All : List Rule → Type 0
-All [] = Unit {0}
-All (r ∷ l) = (r .number ≤ 12) × All l
+abbrev AllFew : List Rule → Type 0
+AllFew [] = Unit {0}
+AllFew (r ∷ l) = (r .number ≤ 12) × AllFew l
 
-first-few : (l : List Rule) → All l → (k : ℕ) → first l ≡ some k → k ≤ 12
+first-few : (l : List Rule) → AllFew l → (k : ℕ) → first l ≡ some k → k ≤ 12
 first-few [] b k e = absurd (let z : _≡_ {A = ℕ} 0 1 = cc in omega arith)
 first-few (r ∷ l) b k e = by (r .applies) (first-few l (b .1) k) e
   where
@@ -36,10 +36,10 @@ first-few (r ∷ l) b k e = by (r .applies) (first-few l (b .1) k) e
     by true i q = let z : r .number ≡ k = cc in omega (arith, b .0)
     by false i q = i q
 
-lent-few : (g : Given) (l : List Rule) → All l → All (lent g ++ l)
+lent-few : (g : Given) (l : List Rule) → AllFew l → AllFew (lent g ++ l)
 lent-few g l a = (omega arith, (omega arith, (omega arith, (omega arith, a))))
 
-sent-few : (g : Given) (x : Update) → All (sent g x)
+sent-few : (g : Given) (x : Update) → AllFew (sent g x)
 sent-few g (Step u v) = (omega arith, (omega arith, (omega arith, (omega arith, tt))))
 sent-few g (Terminal u) = (omega arith, (omega arith, (omega arith, tt)))
 sent-few g (Close u) = (omega arith, (omega arith, tt))

@@ -55,34 +55,34 @@ pub came-as : {a b : Item} {g : Graph} {t : Tables} {g′ : Graph} {t′ : Table
 came-as {g = g} {t = t} {g′ = g′} {t′ = t′} {o = o} e c = subst (λ (x : Item). Came x g t g′ t′ o) e c
 
 -- What a call keeps: every table past its needed length, and the sizes.
-pub record Same (g : Graph) (t : Tables) (g′ : Graph) (t′ : Tables) : Type 0 where
+pub record SameSize (g : Graph) (t : Tables) (g′ : Graph) (t′ : Tables) : Type 0 where
   pub kept : KeptTables (g .n) (g .limit) t t′
   pub states : g′ .n ≡ g .n
   pub limit : g′ .limit ≡ g .limit
 
-same-none : (g : Graph) (t : Tables) → Same g t g t
+same-none : (g : Graph) (t : Tables) → SameSize g t g t
 same-none g t = record { kept = tables-same (g .n) (g .limit) t; states = refl; limit = refl }
 
-same-then : {g g₁ g₂ : Graph} {t t₁ t₂ : Tables} → Same g t g₁ t₁ → Same g₁ t₁ g₂ t₂ → Same g t g₂ t₂
+same-then : {g g₁ g₂ : Graph} {t t₁ t₂ : Tables} → SameSize g t g₁ t₁ → SameSize g₁ t₁ g₂ t₂ → SameSize g t g₂ t₂
 same-then a b = record { kept = tables-then (a .kept) (rw (a .states, a .limit) at (b .kept)); states = b .states ∙ a .states; limit = b .limit ∙ a .limit }
 
-same-promise : {g : Graph} {x : Update} {t : Tables} {g′ : Graph} {a : Answer} {t′ : Tables} → Promise g x t g′ a t′ → Same g t g′ t′
+same-promise : {g : Graph} {x : Update} {t : Tables} {g′ : Graph} {a : Answer} {t′ : Tables} → Promise g x t g′ a t′ → SameSize g t g′ t′
 same-promise {g} {x} {t} {g′} {a} {t′} p = by (refusalOn g t x) refl
   where
-    by : (o : Option ℕ) → refusalOn g t x ≡ o → Same g t g′ t′
+    by : (o : Option ℕ) → refusalOn g t x ≡ o → SameSize g t g′ t′
     by none e =
         let w = p .accepts e in
         record { kept = w .kept; states = ap (λ (h : Graph). h .n) (w .graph) ∙ same-states g x; limit = ap (λ (h : Graph). h .limit) (w .graph) ∙ same-limit g x }
     by (some k) e = let w = p .refuses k e in rw (w .1, w .2) (same-none g t)
 
-pub came-same : {a : Item} {g : Graph} {t : Tables} {g′ : Graph} {t′ : Tables} {o : LineAnswer} → Came a g t g′ t′ o → Same g t g′ t′
+pub came-same : {a : Item} {g : Graph} {t : Tables} {g′ : Graph} {t′ : Tables} {o : LineAnswer} → Came a g t g′ t′ o → SameSize g t g′ t′
 came-same {g = g} {t = t} nothing = same-none g t
 came-same (sent p e) = same-promise p
 came-same {g = g} {t = t} malformed = same-none g t
 came-same {g = g} {t = t} badNames = same-none g t
 came-same {g = g} {t = t} tooMany = same-none g t
 
-pub applies-same : {g g′ : Graph} {t t′ : Tables} {l : List Passed} → Applies g t l g′ t′ → Same g t g′ t′
+pub applies-same : {g g′ : Graph} {t t′ : Tables} {l : List Passed} → Applies g t l g′ t′ → SameSize g t g′ t′
 applies-same {g} {t = t} no-line = same-none g t
 applies-same (next c a) = same-then (came-same c) (applies-same a)
 

@@ -35,9 +35,6 @@ wrote-then t d e r b w h =
       count = omega (arith, w .count);
     }
 
-pub wrote-length : (t d e : List ℕ) (r : ℕ) → Wrote t d e r → length t ≤ length d → length e ≡ length d
-wrote-length t d e r w h = rw (w .bytes, length-append, length-drop) (omega arith)
-
 -- a text behind another
 pub wrote-at : (t u d e f : List ℕ) (r k : ℕ) → Wrote t d e r → WroteAt r u e f k → length t + length u ≤ length d → Wrote (t ++ u) d f k
 wrote-at t u d e f r k w a h =

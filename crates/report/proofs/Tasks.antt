@@ -18,7 +18,7 @@ use Rattle.record.proofs.Splitting.{last-short}
 use Rattle.reader.specs.Pieces.{pieceOr}
 use Rattle.reader.specs.Advancing.{Follows}
 use Rattle.reader.proofs.Whole.{last-left}
-use Rattle.report.specs.declared.lines.Listed.{Listed}
+use Rattle.report.specs.declared.lines.LinesEnd.{LinesEnd}
 use Rattle.report.specs.declared.lister.Lister.{Lister}
 use Rattle.reader.specs.declared.task.Task.{Task}
 use Rattle.reader.specs.declared.task.Task.the-variants.{Read, Write, End}
@@ -42,31 +42,26 @@ pub start-piece : (task : Task) (next : ℕ) (piece newline : List ℕ) → star
 start-piece task next [] newline = omega (arith, start-within task next 0)
 start-piece task next (b ∷ piece) newline = start-within task next (length (b ∷ piece))
 
-pub place-within : (task : Task) (end len : ℕ) → end ≤ len → placeBy task end ≤ len
-place-within Read end len h = h
-place-within Write end len h = omega arith
-place-within End end len h = h
-
 -- from none of an empty one
 start-empty : (task : Task) (next : ℕ) → startBy task next 0 ≡ 0
 start-empty task next = omega (arith, start-within task next 0)
 
-module _ (l : Lister) (output : List ℕ) (t : Tables) (d : Listed) (e : List ℕ) (t′ : Tables) where
+module _ (l : Lister) (output : List ℕ) (t : Tables) (d : LinesEnd) (e : List ℕ) (t′ : Tables) where
   -- What the lines of a part leave, by where they stop.
-  abbrev Done : List ℕ → List ℕ → ℕ → Type 0
-  Done bytes left at = (f : Follows (l .reader .splitter) bytes (l .reader .engine .graph) t (d .reader .splitter) left (d .reader .engine .graph) t′) × WroteAt at (passedText (f .passed)) output e (d .end)
+  abbrev Left : List ℕ → List ℕ → ℕ → Type 0
+  Left bytes left at = (f : Follows (l .reader .splitter) bytes (l .reader .engine .graph) t (d .reader .splitter) left (d .reader .engine .graph) t′) × WroteAt at (passedText (f .passed)) output e (d .end)
 
   module _ {at : ℕ} (room : at + listerRoom ≤ length output) where
-    size : {bytes left : List ℕ} → Done bytes left at → d .end ≤ length output → length e ≡ length output
+    size : {bytes left : List ℕ} → Left bytes left at → d .end ≤ length output → length e ≡ length output
     size w h = placed-length at (passedText (w .0 .passed)) output e (d .end) (w .1) (omega (arith, w .1 .after))
 
     -- a piece
     module _ {piece : List ℕ} (some : 0 < length piece) {index : ℕ} (place : at ≡ placeBy (l .task) (l .end)) (from : index ≡ startBy (l .task) (l .next) (length piece))
         (k : Lines (l .reader .splitter) piece index (l .reader .engine .graph) t (d .reader .splitter) (d .next) (d .reader .engine .graph) t′ at output e (d .end)) where
-      done : Done (drop (startBy (l .task) (l .next) (length piece)) piece) (drop (d .next) piece) (placeBy (l .task) (l .end))
+      done : Left (drop (startBy (l .task) (l .next) (length piece)) piece) (drop (d .next) piece) (placeBy (l .task) (l .end))
       done =
-          subst (λ (i : ℕ). Done (drop i piece) (drop (d .next) piece) (placeBy (l .task) (l .end))) from
-          (subst (λ (i : ℕ). Done (drop index piece) (drop (d .next) piece) i) place (k .follows, k .wrote))
+          subst (λ (i : ℕ). Left (drop i piece) (drop (d .next) piece) (placeBy (l .task) (l .end))) from
+          (subst (λ (i : ℕ). Left (drop index piece) (drop (d .next) piece) i) place (k .follows, k .wrote))
 
       pub lists-piece : {l′ : Lister} {output′ : List ℕ} → AfterLines d (length piece) (length piece) (t′ .status) e l′ output′ → Lists l piece output t l′ output′ t′
       lists-piece (waits h q z) = rw (q, z) (pauses (done .0) refl (omega (arith, k .short h)) (done .1) (k .within))
@@ -92,10 +87,10 @@ module _ (l : Lister) (output : List ℕ) (t : Tables) (d : Listed) (e : List �
       over : drop (d .next) newline ≡ []
       over = last-left newline (d .next) one moves
 
-      done-last : Done newline (drop (d .next) newline) (placeBy (l .task) (l .end))
+      done-last : Left newline (drop (d .next) newline) (placeBy (l .task) (l .end))
       done-last =
-          subst (λ (i : ℕ). Done newline (drop (d .next) newline) i) place
-          (subst (λ (i : ℕ). Done (drop i newline) (drop (d .next) newline) at) none-before (k .follows, k .wrote))
+          subst (λ (i : ℕ). Left newline (drop (d .next) newline) i) place
+          (subst (λ (i : ℕ). Left (drop i newline) (drop (d .next) newline) at) none-before (k .follows, k .wrote))
 
       pub lists-end : {l′ : Lister} {output′ : List ℕ} → AfterLines d (length newline) 0 (t′ .status) e l′ output′ → Lists l [] output t l′ output′ t′
       lists-end (waits h q z) = absurd (by (length newline) refl)
@@ -112,7 +107,7 @@ module _ (l : Lister) (output : List ℕ) (t : Tables) (d : Listed) (e : List �
 
 -- Either, by what the piece is.
 pub lists-by :
-    (l : Lister) (piece output : List ℕ) (t : Tables) (d : Listed) (e : List ℕ) (t′ : Tables) {at index : ℕ} {part newline : List ℕ} {l′ : Lister} {output′ : List ℕ} →
+    (l : Lister) (piece output : List ℕ) (t : Tables) (d : LinesEnd) (e : List ℕ) (t′ : Tables) {at index : ℕ} {part newline : List ℕ} {l′ : Lister} {output′ : List ℕ} →
     at + listerRoom ≤ length output → at ≡ placeBy (l .task) (l .end) → index ≡ startBy (l .task) (l .next) (length piece) → part ≡ pieceOr piece newline → newline ≡ lastNewline (l .reader .splitter) →
     Lines (l .reader .splitter) part index (l .reader .engine .graph) t (d .reader .splitter) (d .next) (d .reader .engine .graph) t′ at output e (d .end) →
     AfterLines d (length part) (length piece) (t′ .status) e l′ output′ → Lists l piece output t l′ output′ t′

@@ -13,7 +13,7 @@ use Rattle.record.specs.Splitting.{started, lastNewline}
 use Rattle.reader.specs.Opening.{readerGraph, openRefusal, freshened}
 use Rattle.reader.specs.Reading.{recordLimit}
 use Rattle.reader.specs.Advancing.{Follows}
-use Rattle.report.specs.declared.lines.Listed.{Listed}
+use Rattle.report.specs.declared.lines.LinesEnd.{LinesEnd}
 use Rattle.report.specs.declared.lister.Lister.{Lister}
 use Rattle.reader.specs.declared.task.Task.{Task}
 use Rattle.reader.specs.declared.task.Task.the-variants.{Read, Write, End}
@@ -69,12 +69,12 @@ startBy Write next len = least next len
 startBy End next len = least next len
 
 -- The totals behind the lines, where there is room for them.
-pub data PutsTotals (d : Listed) (status output : List ℕ) (l : Lister) (output′ : List ℕ) : Type 0 where
+pub data PutsTotals (d : LinesEnd) (status output : List ℕ) (l : Lister) (output′ : List ℕ) : Type 0 where
   short : length output < d .end + totalsRoom → l ≡ record { reader = d .reader; next = d .next; end = d .end; task = Write } → output′ ≡ output → PutsTotals d status output l output′
   totals : {r : ℕ} → l ≡ record { reader = d .reader; next = d .next; end = r; task = End } → r ≤ length output → WroteAt (d .end) (tableTotals status) output output′ r → PutsTotals d status output l output′
 
 -- What is to be done after lines of a part of `len` bytes, of a piece of `given` bytes.
-pub data AfterLines (d : Listed) (len given : ℕ) (status output : List ℕ) (l : Lister) (output′ : List ℕ) : Type 0 where
+pub data AfterLines (d : LinesEnd) (len given : ℕ) (status output : List ℕ) (l : Lister) (output′ : List ℕ) : Type 0 where
   waits : d .next < len → l ≡ record { reader = d .reader; next = d .next; end = d .end; task = Write } → output′ ≡ output → AfterLines d len given status output l output′
   continues : len ≤ d .next → 0 < given → d .reader .splitter .stopped ≡ false → l ≡ record { reader = d .reader; next = d .next; end = d .end; task = Read } → output′ ≡ output → AfterLines d len given status output l output′
   stops : len ≤ d .next → 0 < given → d .reader .splitter .stopped ≡ true → PutsTotals d status output l output′ → AfterLines d len given status output l output′

@@ -15,7 +15,7 @@ use reader::Until;
 pub const LINE_ROOM: usize = 34816;
 
 // The reader after some bytes of a part, the index after them, and the place after what was written.
-pub struct Listed {
+pub struct LinesEnd {
     pub reader: Reader,
     pub next: usize,
     pub end: usize,
@@ -40,7 +40,7 @@ pub fn list_lines(
     visited: &mut [u16],
     in_next: &mut [u16],
     out_next: &mut [u16],
-) -> Listed
+) -> LinesEnd
     requires { ⌜ (index ≤ length (now part)) × (at ≤ length (now buf)) ⌝ }
     ensures { λ r. ⌜ Lines (reader .splitter) (now (part .entry)) index (reader .engine .graph) (tablesOf (now (status .entry)) (now (marks .entry)) (now (from .entry)) (now (to .entry)) (now (successor .entry)) (now (news .entry)) (now («in_head» .entry)) (now («out_head» .entry)) (now (queue .entry)) (now (visited .entry)) (now («in_next» .entry)) (now («out_next» .entry))) (r .reader .splitter) (r .next) (r .reader .engine .graph) (tablesOf (now (status .exit)) (now (marks .exit)) (now (from .exit)) (now (to .exit)) (now (successor .exit)) (now (news .exit)) (now («in_head» .exit)) (now («out_head» .exit)) (now (queue .exit)) (now (visited .exit)) (now («in_next» .exit)) (now («out_next» .exit))) at (now (buf .entry)) (now (buf .exit)) (r .end) ⌝ }
 {
@@ -74,7 +74,7 @@ pub fn list_lines(
         next = turn.next;
         end = put_answer(buf, end, answer, news, status);
     }
-    Listed {
+    LinesEnd {
         reader: current,
         next,
         end,

@@ -6,7 +6,7 @@ ghost use lib.ListN.{length};
 ghost use Rattle.tables.specs.Tables.{tablesOf};
 ghost use Rattle.report.specs.Lister.{listerRoom, idle, placeBy, startBy, least, BeginsListing, Lists, PutsTotals, AfterLines};
 use crate::lines::LINE_ROOM;
-use crate::lines::Listed;
+use crate::lines::LinesEnd;
 use crate::lines::list_lines;
 use crate::text::TOTALS_ROOM;
 use crate::text::put_header;
@@ -200,7 +200,7 @@ fn is_short(len: usize, at: usize) -> bool
 }
 
 // What is to be done after lines of a part, `len` bytes long, of a piece of `given` bytes. Where it is the last, the totals are written.
-fn finish(listed: Listed, len: usize, given: usize, output: &mut [u8], status: &[u8]) -> Lister
+fn finish(listed: LinesEnd, len: usize, given: usize, output: &mut [u8], status: &[u8]) -> Lister
     requires { ⌜ listed .end ≤ length (now output) ⌝ }
     ensures { λ r. ⌜ AfterLines listed len given (now (status .entry)) (now (output .entry)) r (now (output .exit)) ⌝ }
 {
@@ -229,7 +229,7 @@ fn finish(listed: Listed, len: usize, given: usize, output: &mut [u8], status: &
     close(listed, output, status)
 }
 
-fn close(listed: Listed, output: &mut [u8], status: &[u8]) -> Lister
+fn close(listed: LinesEnd, output: &mut [u8], status: &[u8]) -> Lister
     requires { ⌜ listed .end ≤ length (now output) ⌝ }
     ensures { λ r. ⌜ PutsTotals listed (now (status .entry)) (now (output .entry)) r (now (output .exit)) ⌝ }
 {

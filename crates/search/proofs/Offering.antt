@@ -14,7 +14,7 @@ use Rattle.adjacency.specs.Walks.{firstAt, nextAt, Linked}
 use Rattle.search.specs.declared.spread.Span.{Span}
 use Rattle.search.specs.Spreading.{Arcs, Reached, back}
 use Rattle.search.specs.Releasing.{Before}
-use Rattle.search.specs.Offering.{unvisited, Admitted, Offered, passed, taken, Spreading, Offers, sourceAt, Visited, SourcesVisited}
+use Rattle.search.specs.Offering.{unvisited, Admitted, Offered, passed, taken, Spreading, Offers, sourceAt, SourceVisited, SourcesVisited}
 use Rattle.tables.proofs.Keeping.{kept-trans, kept-set}
 use Rattle.search.proofs.Walking.{Walking, walk-first, walk-here, walk-next, walk-end, walk-done}
 use Rattle.search.proofs.Marking.{marked-mark, marked-mark-other, length-mark, kept-mark, unvisited-mark, mark-grows}
@@ -79,7 +79,7 @@ module _ (a : Arcs) (ok : ℕ → ℕ → Bool) (i : ℕ) {v q v′ q′ : List 
   offered-grows (passed f e _ _) r m = rw e m
   offered-grows (taken h pass new adm) r m = grown h pass new adm r m
 
-  offered-visited : Offered (a .n) (ok (sourceAt a i) i) (sourceAt a i) v q s v′ q′ s′ → Visited a ok v′ i
+  offered-visited : Offered (a .n) (ok (sourceAt a i) i) (sourceAt a i) v q s v′ q′ s′ → SourceVisited a ok v′ i
   offered-visited (passed f e _ _) = λ h k. rw e (f h k)
   offered-visited (taken h pass new adm) = λ _ _. admits h pass new adm
 
@@ -116,7 +116,7 @@ module _ {a : Arcs} {ok : ℕ → ℕ → Bool} {x : ℕ} {v q : List ℕ} {s : 
 -- A walk over the steps into x that stands at p: the source of each step passed has been offered.
 pub record OfferWalk (a : Arcs) (ok : ℕ → ℕ → Bool) (x : ℕ) (v q : List ℕ) (s : Span) (v′ q′ : List ℕ) (s′ : Span) (p : ℕ) : Type 0 where
   pub offers : Offers a ok x v q s v′ q′ s′
-  pub walk : Walking (a .head) (a .next) (a .m) x (Visited a ok v′) p
+  pub walk : Walking (a .head) (a .next) (a .m) x (SourceVisited a ok v′) p
 
 module _ {a : Arcs} {ok : ℕ → ℕ → Bool} {x : ℕ} {v q : List ℕ} {s : Span} where
   pub offer-first : {p : ℕ} → s .len + unvisited (a .n) v ≤ a .n → p ≡ firstAt (a .head) (a .m) x → OfferWalk a ok x v q s v q s p

@@ -71,9 +71,9 @@ abbrev pub sourceAt : Arcs → ℕ → ℕ
 sourceAt a i = getD (a .ends) i 0
 
 -- Where it is a state that passes the test, it is visited.
-abbrev pub Visited : Arcs → (ℕ → ℕ → Bool) → List ℕ → ℕ → Type 0
-Visited a ok visited i = sourceAt a i < a .n → ok (sourceAt a i) i ≡ true → marked visited (sourceAt a i) ≡ true
+abbrev pub SourceVisited : Arcs → (ℕ → ℕ → Bool) → List ℕ → ℕ → Type 0
+SourceVisited a ok visited i = sourceAt a i < a .n → ok (sourceAt a i) i ≡ true → marked visited (sourceAt a i) ≡ true
 
 -- So is the source of each step into x.
 abbrev pub SourcesVisited : Arcs → (ℕ → ℕ → Bool) → List ℕ → ℕ → Type 0
-SourcesVisited a ok visited x = (i : ℕ) → Linked (a .head) (a .next) (a .m) x i → Visited a ok visited i
+SourcesVisited a ok visited x = (i : ℕ) → Linked (a .head) (a .next) (a .m) x i → SourceVisited a ok visited i

@@ -1,6 +1,7 @@
 // What a program does between two calls that list or draw: it reads a piece of its standard input, or writes to its standard output.
 ghost use mathlib.Core.Path.{_≡_};
 ghost use mathlib.Core.Bool.{true};
+ghost use mathlib.Core.Logic.{_↔_};
 ghost use Prim.Native.Nat.{_≤_};
 ghost use lib.ListN.{length};
 ghost use Rattle.streams.specs.declared.Served.{Served};
@@ -22,7 +23,7 @@ pub enum Served {
 
 impl Served {
     pub fn is_over(self) -> bool
-        ensures { λ r. ⌜ (r ≡ true → self ≡ Served.Over) ⌝ }
+        ensures { λ r. ⌜ (r ≡ true) ↔ (self ≡ Served.Over) ⌝ }
     {
         match self {
             Served::Piece(_) => false,

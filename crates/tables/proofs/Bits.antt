@@ -2,7 +2,7 @@
 -- Assumes nothing.
 use mathlib.Core.Path.{_≡_}
 use mathlib.Core.Bool.{Bool, true, false, cond}
-use Prim.Native.Nat.{ℕ, _+_, _*_, _-_, _/_, _%_, _<_, _≤_}
+use Prim.Native.Nat.{ℕ, _+_, _*_, _-_, _/_, _%_, _≤_}
 use native.Mathlib.Omega.{arith}
 use native.Mathlib.Nat.{mul-one, mul-zero}
 use native.Mathlib.Decide.{ℕ-discrete}
@@ -35,19 +35,6 @@ module _ (m : ℕ) where
   pub closed-bits : (withClosed m % 2 ≡ m % 2) × (withClosed m / 2 % 2 ≡ m / 2 % 2) × (withClosed m / 4 % 2 ≡ 1)
   unfolding withClosed
   closed-bits = omega arith
-
-  -- a byte stays a byte
-  pub named-byte : m < 256 → withNamed m < 256
-  unfolding withNamed
-  named-byte h = omega arith
-
-  pub terminal-byte : m < 256 → withTerminal m < 256
-  unfolding withTerminal
-  terminal-byte h = omega arith
-
-  pub closed-byte : m < 256 → withClosed m < 256
-  unfolding withClosed
-  closed-byte h = omega arith
 
 -- The byte of three marks: named, terminal, closed.
 unfoldable pub bits : Bool → Bool → Bool → ℕ

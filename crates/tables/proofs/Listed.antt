@@ -109,12 +109,12 @@ at-step (Terminal u ∷ h) p = List·Memᴰ·tail (at-step h (before-terminal p)
 at-step (Close u ∷ h) p = List·Memᴰ·tail (at-step h (before-close p))
 
 -- The first m entries of two lists are the ends of the history's steps.
-pub record Lists (h : History) (m : ℕ) (from to : List ℕ) : Type 0 where
+pub record ListsSteps (h : History) (m : ℕ) (from to : List ℕ) : Type 0 where
   pub count : m ≡ length (sources h)
   pub froms : take m from ≡ sources h
   pub tos : take m to ≡ targets h
 
-module _ {h : History} {m : ℕ} {from to : List ℕ} (l : Lists h m from to) where
+module _ {h : History} {m : ℕ} {from to : List ℕ} (l : ListsSteps h m from to) where
   -- A step of the history is listed.
   pub step-in-list : (a b : ℕ) → IsStep h a b → (p : ℕ) × (p < m) × (getD from p 0 ≡ a) × (getD to p 0 ≡ b)
   step-in-list a b s =
@@ -138,7 +138,7 @@ module _ {h : History} {m : ℕ} {from to : List ℕ} (l : Lists h m from to) wh
 
 -- The lists of tables that fit.
 module _ {h : History} {g : Graph} {t : Tables} (c : Consistent h g t) where
-  pub lists-of : Lists h (g .steps) (t .from) (t .to)
+  pub lists-of : ListsSteps h (g .steps) (t .from) (t .to)
   lists-of = record { count = c .steps; froms = c .from; tos = c .to }
 
   pub step-listed : (a b : ℕ) → IsStep h a b → (p : ℕ) × (p < g .steps) × (getD (t .from) p 0 ≡ a) × (getD (t .to) p 0 ≡ b)

@@ -18,12 +18,12 @@ use Rattle.tables.specs.Tables.{Tables, enough, needs, lengths}
 use Rattle.tables.specs.Refused.{given, refusalOn, number, lentNumber, sentNumber, statusRules, statusAnswer}
 
 -- No rule of the list has the number 0.
-abbrev pub Numbered : List Rule → Type 0
-Numbered [] = Unit {0}
-Numbered (r ∷ l) = (0 < r .number) × Numbered l
+abbrev pub Positive : List Rule → Type 0
+Positive [] = Unit {0}
+Positive (r ∷ l) = (0 < r .number) × Positive l
 
 -- The number 0 is given for none alone.
-pub number-none : (l : List Rule) → Numbered l → number (first l) ≡ 0 → first l ≡ none
+pub number-none : (l : List Rule) → Positive l → number (first l) ≡ 0 → first l ≡ none
 number-none [] p e = refl
 number-none (r ∷ l) p e = at (r .applies) (number-none l (p .1)) e
   where
@@ -52,10 +52,10 @@ first-none (r ∷ l) m e = at (r .applies) (first-none l m) e
     at true i q = absurd (let z : _≡_ {A = ℕ} 0 1 = cc in omega arith)
     at false i q = i q
 
-lent-numbered : (g : Given) → Numbered (lent g)
+lent-numbered : (g : Given) → Positive (lent g)
 lent-numbered g = (omega arith, (omega arith, (omega arith, (omega arith, tt))))
 
-sent-numbered : (g : Given) (x : Update) → Numbered (sent g x)
+sent-numbered : (g : Given) (x : Update) → Positive (sent g x)
 sent-numbered g (Step u v) = (omega arith, (omega arith, (omega arith, (omega arith, tt))))
 sent-numbered g (Terminal u) = (omega arith, (omega arith, (omega arith, tt)))
 sent-numbered g (Close u) = (omega arith, (omega arith, tt))
@@ -81,19 +81,19 @@ unfolding sentNumber
 sent-passes g marks status x e = number-none (sent (given g true marks status) x) (sent-numbered (given g true marks status) x) e
 
 -- Where there is no number, no rule applies.
-abbrev pub Passed : List Rule → Type 0
-Passed [] = Unit {0}
-Passed (r ∷ l) = (r .applies ≡ false) × Passed l
+abbrev pub NoneApply : List Rule → Type 0
+NoneApply [] = Unit {0}
+NoneApply (r ∷ l) = (r .applies ≡ false) × NoneApply l
 
-pub passed : (l : List Rule) → first l ≡ none → Passed l
+pub passed : (l : List Rule) → first l ≡ none → NoneApply l
 passed [] e = tt
 passed (r ∷ l) e = at (r .applies) refl (passed l) e
   where
-    at : (b : Bool) → r .applies ≡ b → (first l ≡ none → Passed l) → cond b (some (r .number)) (first l) ≡ none → (r .applies ≡ false) × Passed l
+    at : (b : Bool) → r .applies ≡ b → (first l ≡ none → NoneApply l) → cond b (some (r .number)) (first l) ≡ none → (r .applies ≡ false) × NoneApply l
     at true q i z = absurd (let y : _≡_ {A = ℕ} 0 1 = cc in omega arith)
     at false q i z = (q, i z)
 
-pub none-applies : (l : List Rule) → Passed l → first l ≡ none
+pub none-applies : (l : List Rule) → NoneApply l → first l ≡ none
 none-applies [] p = refl
 none-applies (r ∷ l) p = rw (p .0) (none-applies l (p .1))
 

@@ -19,7 +19,7 @@ use Rattle.gid.specs.Outcomes.{accepted, countSteps, givenAfter, outcome, after
 use Rattle.gid.proofs.Decide.{refutes}
 use Rattle.gid.proofs.Tests.{decides-closed, decides-dead}
 use Rattle.gid.proofs.Deadness.{dead-closed}
-use Rattle.tables.proofs.Refusing.{Passed, none-applies, first-none}
+use Rattle.tables.proofs.Refusing.{NoneApply, none-applies, first-none}
 use Rattle.reader.specs.Opening.{readerStates}
 use Rattle.reader.specs.Replaying.{afterItems, firstRefusal}
 use Rattle.writer.proofs.Splits.{numbered}
@@ -45,7 +45,7 @@ module _ (limit : ℕ) (some-limit : 0 < limit) (low : limit ≤ maxSteps) where
   unfolding refusal givenAfter
   unrefused h x r o c = first-none (lent (givenAfter readerStates limit h)) (sent (givenAfter readerStates limit h) x) (none-applies (lent (givenAfter readerStates limit h)) (lent-passed (fewer-before h (x ∷ [])))) ∙ none-applies (sent (givenAfter readerStates limit h) x) (sent-passed x r o c)
     where
-      lent-passed : countSteps h ≤ countSteps (x ∷ h) → Passed (lent (givenAfter readerStates limit h))
+      lent-passed : countSteps h ≤ countSteps (x ∷ h) → NoneApply (lent (givenAfter readerStates limit h))
       lent-passed f = (refl, (rw (ne-eqb limit 0 (λ e. omega arith), le-ltb maxSteps limit low), (refl, (le-ltb limit (countSteps h) (omega arith), tt))))
 
       unclosed : (u : ℕ) → (IsClosed h u → ⊥) → isClosed h u ≡ false
@@ -54,7 +54,7 @@ module _ (limit : ℕ) (some-limit : 0 < limit) (low : limit ≤ maxSteps) where
       undead : (u : ℕ) → (IsClosed h u → ⊥) → isDead h u ≡ false
       undead u n = refutes (isDead h u) (decides-dead h u) (λ d. n (dead-closed d))
 
-      sent-passed : (y : Update) → StatesBelow readerStates y → (IsClosed h (source y) → ⊥) → countSteps (y ∷ h) ≤ limit → Passed (sent (givenAfter readerStates limit h) y)
+      sent-passed : (y : Update) → StatesBelow readerStates y → (IsClosed h (source y) → ⊥) → countSteps (y ∷ h) ≤ limit → NoneApply (sent (givenAfter readerStates limit h) y)
       sent-passed (Step u v) q n k = (rw (lt-leb readerStates u (q u (inl refl)), lt-leb readerStates v (q v (inr refl))), (unclosed u n, (undead u n, (ne-eqb (countSteps h) limit (λ e. omega arith), tt))))
       sent-passed (Terminal u) q n k = (lt-leb readerStates u (q u refl), (unclosed u n, (undead u n, tt)))
       sent-passed (Close u) q n k = (lt-leb readerStates u (q u refl), (unclosed u n, tt))

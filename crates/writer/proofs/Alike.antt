@@ -6,13 +6,13 @@ use Rattle.gid.specs.declared.Update.the-variants.{Terminal, Close}
 use Rattle.gid.specs.Histories.{History, IsNamed}
 use Rattle.gid.specs.Statuses.{isNamed, isTerminal, isClosed, status}
 use Rattle.gid.proofs.Decide.{same-test, refutes}
-use Rattle.gid.proofs.Paths.{Within}
+use Rattle.gid.proofs.Paths.{Inside}
 use Rattle.gid.proofs.Tests.{decides-named, decides-terminal, decides-closed}
 use Rattle.gid.proofs.Deadness.{live-within}
 use Rattle.gid.proofs.Pruning.{Keeps, same-live, same-dead}
 use Rattle.tables.specs.Fitting.{marksOf}
 
-module _ {h g : History} (to : Within h g) (of : Within g h) (s : ℕ) where
+module _ {h g : History} (to : Inside h g) (of : Inside g h) (s : ℕ) where
   same-terminal : isTerminal h s ≡ isTerminal g s
   same-terminal = same-test (isTerminal h s) (isTerminal g s) (decides-terminal h s) (decides-terminal g s) (to (Terminal s)) (of (Terminal s))
 

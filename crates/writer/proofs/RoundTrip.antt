@@ -12,7 +12,7 @@ use Rattle.gid.specs.declared.Update.the-variants.{Step, Terminal, Close}
 use Rattle.gid.specs.Histories.{History, IsNamed, following}
 use Rattle.gid.specs.Statuses.{status}
 use Rattle.gid.specs.Outcomes.{accepted, countSteps}
-use Rattle.gid.proofs.Paths.{Within as Inside}
+use Rattle.gid.proofs.Paths.{Inside}
 use Rattle.gid.proofs.Statuses.{status-unseen}
 use Rattle.tables.specs.declared.Graph.{Graph}
 use Rattle.tables.specs.Tables.{Tables}

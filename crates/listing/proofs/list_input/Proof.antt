@@ -80,7 +80,7 @@ same-length-14 : tie.Need-same-length-14 Inv-loop μ-loop
 same-length-14 c = ap (λ (x : Lengths). x .«out_next») (c .before .before .before .before .before .before .before .before .before .loop .inv .tables) ∙ c .before .before .before .before .before .before .before .before .before .before .before .before .before .before .before .before .before .before .before .before .before .before .before .before .before .before .before .before .before .before .before .before .before .before .before .before .begin .kept .1 .1 .1 .1 .1 .1 .1 .1 .1 .1 .1 .1 .0
 
 returns : tie.Need-returns Inv-loop μ-loop
-returns c = turns-ended (c .before .before .before .before .before .before .before .before .before .loop .inv) (c .before .before .before .before .serve .ensures) (c .is-over .ensures)
+returns c = turns-ended (c .before .before .before .before .before .before .before .before .before .loop .inv) (c .before .before .before .before .serve .ensures) (c .is-over .ensures .0)
 
 slice-reshare-prefix-list : tie.Need-slice-reshare-prefix-list Inv-loop μ-loop
 slice-reshare-prefix-list c = served-fits (c .before .before .before .before .before .serve .ensures) (c .before .served .given .1) (c .before .before .before .before .before .before .before .before .before .before .loop .inv .fits)
