@@ -37,7 +37,7 @@ use Rattle.reader.proofs.Following.{applies-same, applies-then, items-then, app
 use Rattle.reader.proofs.Whole.{orRefused}
 use Rattle.reader.proofs.Refusing.{Decided, decides, stops-then}
 use Rattle.query.proofs.Numbers.{open-few}
-use Rattle.query.specs.Answering.{orLine, answerAfter, answerOf, answerOn, historyUpTo, StatusAfter, isRefused, refusedOr}
+use Rattle.query.specs.Answering.{orLine, answerAfter, answerOf, answerOn, historyUpTo, StatusAfter, refusedOr}
 
 -- what decides, by the answer that ended the reading
 line-answer : (o : LineAnswer) (b : ℕ) → refusedOr o b ≡ orLine (orRefused o none) b
@@ -45,18 +45,13 @@ line-answer Nothing b = refl
 line-answer (Accepted line k) b = refl
 line-answer (Refused line k) b = refl
 
-refused-answer : (o : LineAnswer) (a b : ℕ) → isRefused o ≡ true → refusedOr o a ≡ orLine (orRefused o none) b
+refused-answer : (o : LineAnswer) (a b : ℕ) → waited UntilRefusal o ≡ true → refusedOr o a ≡ orLine (orRefused o none) b
 refused-answer Nothing a b e = absurd (false≢true e)
 refused-answer (Accepted line k) a b e = absurd (false≢true e)
 refused-answer (Refused line k) a b e = refl
 
-not-nothing : (o : LineAnswer) → isRefused o ≡ true → o ≡ Nothing → ⊥
-not-nothing o e q = false≢true (ap isRefused (sym q) ∙ e)
-
-not-waited : (o : LineAnswer) → isRefused o ≡ false → waited UntilRefusal o ≡ false
-not-waited Nothing e = refl
-not-waited (Accepted line k) e = refl
-not-waited (Refused line k) e = absurd (false≢true (sym e))
+not-nothing : (o : LineAnswer) → waited UntilRefusal o ≡ true → o ≡ Nothing → ⊥
+not-nothing o e q = false≢true (ap (waited UntilRefusal) (sym q) ∙ e)
 
 all-read : {l : List Passed} {left : List ℕ} {o : LineAnswer} → Stops UntilRefusal l left o → waited UntilRefusal o ≡ false → left ≡ []
 all-read (found before p e q w z) n = absurd (false≢true (sym n ∙ w))
@@ -118,7 +113,7 @@ module _ (bytes : List ℕ) {s : ℕ} (below : s < maxStates) {t t₁ : Tables} 
       graphs = ap (λ (x : Engine). x .graph) same
 
       -- A line is refused.
-      pub asks-refused : isRefused o ≡ true → StatusAfter bytes s t t₂ (refusedOr o 0)
+      pub asks-refused : waited UntilRefusal o ≡ true → StatusAfter bytes s t t₂ (refusedOr o 0)
       asks-refused e =
           let applied = rw graphs at (first .follows .applied) in
           let told : items bytes ≡ itemsOf (first .follows .passed) ++ run s₁ (left ++ []) = sym (run-items bytes) ∙ ap (run started) (sym (append-nil bytes)) ∙ ap (λ (x : Splitter). run x (bytes ++ [])) (sym begins) ∙ first .follows .told [] in
@@ -126,7 +121,7 @@ module _ (bytes : List ℕ) {s : ℕ} (below : s < maxStates) {t t₁ : Tables} 
           asks-lines applied d (refused-answer o 0 (status (historyOf recordLimit bytes) s) e ∙ ap (λ (x : Option Refusal). orLine x (status (historyOf recordLimit bytes) s)) (sym (d .refusal)))
 
       -- None is, up to the last.
-      module _ {newline left′ : List ℕ} {s₂ : Splitter} {g₂ : Graph} {t₃ : Tables} {o₂ : LineAnswer} (none-yet : isRefused o ≡ false) (ends : newline ≡ lastNewline s₁) (last : Advances UntilRefusal s₁ newline g₁ t₂ s₂ left′ g₂ t₃ o₂) (over : left′ ≡ []) where
+      module _ {newline left′ : List ℕ} {s₂ : Splitter} {g₂ : Graph} {t₃ : Tables} {o₂ : LineAnswer} (none-yet : waited UntilRefusal o ≡ false) (ends : newline ≡ lastNewline s₁) (last : Advances UntilRefusal s₁ newline g₁ t₂ s₂ left′ g₂ t₃ o₂) (over : left′ ≡ []) where
         abbrev lines : List Passed
         lines = first .follows .passed ++ last .follows .passed
 
@@ -137,10 +132,10 @@ module _ (bytes : List ℕ) {s : ℕ} (below : s < maxStates) {t t₁ : Tables} 
         told =
             let u = underway-more (underway-opened opens ready begins graphs) bytes in
             let v = underway-follows u (first .follows) in
-            underway-last v (all-read (first .stops) (not-waited o none-yet)) (last .follows) over ends ∙ sym (items-then (first .follows .passed) (last .follows .passed))
+            underway-last v (all-read (first .stops) none-yet) (last .follows) over ends ∙ sym (items-then (first .follows .passed) (last .follows .passed))
 
         decided : Decided recordLimit [] (items bytes) o₂ (itemsOf lines)
-        decided = rw (told ∙ sym (append-nil (itemsOf lines))) (decides (ready-stands opens ready) applied (stops-then (first .stops) (not-waited o none-yet) (last .stops)) [] (λ q. refl))
+        decided = rw (told ∙ sym (append-nil (itemsOf lines))) (decides (ready-stands opens ready) applied (stops-then (first .stops) none-yet (last .stops)) [] (λ q. refl))
 
         pub asks-long : s < length (t₃ .status)
         asks-long = omega (arith, long-enough readerStates recordLimit t₃ (stood applied decided .long) .1 .status)

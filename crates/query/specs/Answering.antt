@@ -1,7 +1,7 @@
 -- The status of a state after a record. Document 01, "The record": "it hands over a record's bytes and a state number, and gets a status."
 -- Assumes nothing.
 use mathlib.Core.Path.{_≡_}
-use mathlib.Core.Bool.{Bool, true, false, cond}
+use mathlib.Core.Bool.{cond}
 use mathlib.Core.List.{List, []}
 use mathlib.Core.Option.{Option, some, none}
 use Prim.Native.Nat.{ℕ, _+_, _≤_, _<_}
@@ -53,11 +53,6 @@ pub record StatusAfter (bytes : List ℕ) (s : ℕ) (t t′ : Tables) (r : ℕ) 
   pub kept : KeptTables readerStates recordLimit t t′
 
 -- The answer by what came of a line.
-abbrev pub isRefused : LineAnswer → Bool
-isRefused Nothing = false
-isRefused (Accepted line k) = false
-isRefused (Refused line k) = true
-
 abbrev pub refusedOr : LineAnswer → ℕ → ℕ
 refusedOr Nothing b = b
 refusedOr (Accepted line k) b = b

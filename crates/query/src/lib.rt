@@ -2,12 +2,13 @@
 ghost use mathlib.Core.Path.{_≡_};
 ghost use Prim.Native.Nat.{_≤_};
 ghost use Rattle.tables.specs.Tables.{tablesOf};
-ghost use Rattle.query.specs.Answering.{StatusAfter, isRefused, refusedOr, Few};
+ghost use Rattle.query.specs.Answering.{StatusAfter, refusedOr, Few};
 use reader::LineAnswer;
 use reader::Opened;
 use reader::RECORD_LIMIT;
 use reader::Reader;
 use reader::Until;
+use reader::is_refused;
 use tables::MAX_STATES;
 use tables::OUT_OF_RANGE;
 
@@ -99,16 +100,6 @@ pub fn status_after(
             let ended = last.answer;
             refused_or(ended, status[state])
         }
-    }
-}
-
-fn is_refused(answer: LineAnswer) -> bool
-    ensures { λ r. ⌜ r ≡ isRefused answer ⌝ }
-{
-    match answer {
-        LineAnswer::Nothing => false,
-        LineAnswer::Accepted { line: _, count: _ } => false,
-        LineAnswer::Refused { line: _, number: _ } => true,
     }
 }
 

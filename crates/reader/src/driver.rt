@@ -191,7 +191,7 @@ fn has_news(answer: LineAnswer) -> bool
     }
 }
 
-fn is_refused(answer: LineAnswer) -> bool
+pub fn is_refused(answer: LineAnswer) -> bool
     ensures { λ r. ⌜ r ≡ waited Until.Refusal answer ⌝ }
 {
     match answer {

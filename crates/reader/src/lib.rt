@@ -11,6 +11,7 @@ mod task;
 pub use driver::LineAnswer;
 pub use driver::Turn;
 pub use driver::Until;
+pub use driver::is_refused;
 use engine::Engine;
 use record::Splitter;
 pub use start::Opened;
