@@ -54,7 +54,7 @@ answered-few {g} {x = x} {t = t} line (No k) p =
 
 -- of any line,
 came-few : {a : Item} {g g′ : Graph} {t t′ : Tables} {o : LineAnswer} → Came a g t g′ t′ o → Few o
-came-few (came {r = r} {a = a} p e) = rw e (answered-few (r .line) a p)
+came-few (came {r = r} {a = a} p e q) = rw e (answered-few (r .line) a p)
 came-few nothing = tt
 came-few malformed = omega arith
 came-few badNames = omega arith

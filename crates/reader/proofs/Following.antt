@@ -24,6 +24,7 @@ use Rattle.engine.specs.Promise.{Promise}
 use Rattle.engine.proofs.Running.{was-accepted, same-states, same-limit}
 use Rattle.engine.proofs.Promising.{room-of}
 use Rattle.record.specs.declared.splitter.Item.{Item}
+use Rattle.record.specs.declared.splitter.Numbered.{Numbered}
 use Rattle.record.proofs.splitter.Item.{the-type}
 use Rattle.record.specs.declared.splitter.Item.the-variants.{Nothing as NoLine, Update as Sent, Malformed, BadNames, TooMany}
 use Rattle.record.specs.declared.splitter.Splitter.{Splitter}
@@ -38,7 +39,7 @@ use Rattle.reader.specs.Turning.{itemAnswer, lineAnswer, Came, sent, not
 use Rattle.reader.specs.Replaying.{afterItems}
 use Rattle.reader.specs.Standing.{Standing}
 use Rattle.reader.specs.Advancing.{Passed, itemsOf, Applies, none as no-line, next, waited, Quiet, found, ended, Bounded, Follows, Advances}
-use Rattle.reader.proofs.Lines.{line-right}
+use Rattle.reader.proofs.Lines.{answer-told, line-right}
 
 -- What comes of a line that is no update: its tag is another than an update's.
 pub came-other : (a : Item) {g : Graph} {t : Tables} → OneOf (0 ∷ 2 ∷ 3 ∷ 4 ∷ []) (tagOf the-type a) → Came a g t g t (itemAnswer a)
@@ -77,7 +78,7 @@ same-promise {g} {x} {t} {g′} {a} {t′} p = by (refusalOn g t x) refl
 
 pub came-same : {a : Item} {g : Graph} {t : Tables} {g′ : Graph} {t′ : Tables} {o : LineAnswer} → Came a g t g′ t′ o → SameSize g t g′ t′
 came-same {g = g} {t = t} nothing = same-none g t
-came-same (sent p e) = same-promise p
+came-same (sent p e w) = same-promise p
 came-same {g = g} {t = t} malformed = same-none g t
 came-same {g = g} {t = t} badNames = same-none g t
 came-same {g = g} {t = t} tooMany = same-none g t
@@ -117,7 +118,7 @@ one-told TooMany o t = refl
 
 one-applies : {a : Item} {g : Graph} {t : Tables} {g′ : Graph} {t′ : Tables} {o : LineAnswer} → Came a g t g′ t′ o → Applies g t (one a o t′) g′ t′
 one-applies nothing = no-line
-one-applies (sent p e) = next (sent p e) no-line
+one-applies (sent p e w) = next (sent p e w) no-line
 one-applies malformed = next malformed no-line
 one-applies badNames = next badNames no-line
 one-applies tooMany = next tooMany no-line
@@ -141,15 +142,19 @@ one-found until nothing e = absurd (false≢true (sym (never until) ∙ e))
     never News = refl
     never Refusal = refl
     never End = refl
-one-found until (sent p q) e = (_, refl, refl)
+one-found until (sent p q w) e = (_, refl, refl)
 one-found until malformed e = (_, refl, refl)
 one-found until badNames e = (_, refl, refl)
 one-found until tooMany e = (_, refl, refl)
 
+-- a line that is an update
+pub came-sent : {r : Numbered} {g g′ : Graph} {t t′ : Tables} {a : Answer} {o : LineAnswer} → Promise g (r .update) t g′ a t′ → o ≡ lineAnswer (r .line) a → Came (Sent r) g t g′ t′ o
+came-sent {r} {t′ = t′} {a = a} p e = sent p e (rw e (answer-told (r .line) a (t′ .news)))
+
 -- what came of a line is bounded
 came-bounded : {a : Item} {g : Graph} {t : Tables} {g′ : Graph} {t′ : Tables} {o : LineAnswer} → Came a g t g′ t′ o → itemLine a ≤ maxLines + 1 → Bounded o (t′ .news)
 came-bounded nothing h = tt
-came-bounded {g = g} {t = t} {g′ = g′} {t′ = t′} (sent {r = r} {a = a} p e) h = rw e (by a p)
+came-bounded {g = g} {t = t} {g′ = g′} {t′ = t′} (sent {r = r} {a = a} p e w) h = rw e (by a p)
   where
     by : (x : Answer) → Promise g (r .update) t g′ x t′ → Bounded (lineAnswer (r .line) x) (t′ .news)
     by (Yes k) q =

@@ -58,7 +58,7 @@ lineTold limit h (Malformed n) = some (record { line = itemLine (Malformed n); o
 lineTold limit h BadNames = some (record { line = itemLine BadNames; outcome = outcomeOf limit h BadNames })
 lineTold limit h TooMany = some (record { line = itemLine TooMany; outcome = outcomeOf limit h TooMany })
 
-answer-told : (line : ℕ) (a : Answer) (news : List ℕ) → lineOutcome (lineAnswer line a) news ≡ some (record { line = line; outcome = answerOutcome a news })
+pub answer-told : (line : ℕ) (a : Answer) (news : List ℕ) → lineOutcome (lineAnswer line a) news ≡ some (record { line = line; outcome = answerOutcome a news })
 answer-told line (Yes k) news = refl
 answer-told line (No k) news = refl
 
@@ -87,9 +87,9 @@ module _ {limit : ℕ} {h : History} {g : Graph} {t : Tables} (s : Standing limi
   -- One line: what comes of it is what the definitions say, and so are the tables after it.
   pub line-right : {a : Item} {g′ : Graph} {t′ : Tables} {o : LineAnswer} → Came a g t g′ t′ o → (lineOutcome o (t′ .news) ≡ lineTold limit h a) × Standing limit (afterItem limit h a) g′ t′
   line-right nothing = (refl, s)
-  line-right {t′ = t′} (sent {r = r} {a = a} p e) =
+  line-right (sent {r = r} p e q) =
       let w = updated (r .update) p in
-      (rw e (answer-told (r .line) a (t′ .news) ∙ ap (λ (x : Outcome (List ℕ)). some (record { line = r .line; outcome = x })) (w .0)), w .1)
+      (q ∙ ap (λ (x : Outcome (List ℕ)). some (record { line = r .line; outcome = x })) (w .0), w .1)
   line-right malformed = (refl, s)
   line-right badNames = (refl, s)
   line-right tooMany = (refl, s)
@@ -111,7 +111,7 @@ module _ {limit : ℕ} {h : History} {g : Graph} {t : Tables} (s : Standing limi
   -- A line goes on with a run by its update, accepted or refused, where it has one: the tables are those of a run over the lines' updates.
   pub line-runs : {g₀ : Graph} {t₀ : Tables} {xs : List Update} {a : Item} {g′ : Graph} {t′ : Tables} {o : LineAnswer} → Run g₀ t₀ xs h g t → Came a g t g′ t′ o → Run g₀ t₀ (sends a ++ xs) (afterItem limit h a) g′ t′
   line-runs r nothing = r
-  line-runs r (sent {r = l} {a = a} p e) = runs (l .update) a r p
+  line-runs r (sent {r = l} {a = a} p e q) = runs (l .update) a r p
   line-runs r malformed = r
   line-runs r badNames = r
   line-runs r tooMany = r

@@ -10,6 +10,7 @@ use Rattle.tables.specs.declared.Graph.{Graph}
 use Rattle.tables.specs.Tables.{Tables}
 use Rattle.engine.specs.declared.Answer.{Answer}
 use Rattle.engine.specs.declared.Answer.the-variants.{Accepted as Yes, Refused as No}
+use Rattle.engine.specs.Answers.{answerOutcome}
 use Rattle.engine.specs.Promise.{Promise}
 use Rattle.record.specs.declared.splitter.Item.{Item}
 use Rattle.record.specs.declared.splitter.Item.the-variants.{Nothing as NoLine, Update, Malformed, BadNames, TooMany}
@@ -42,9 +43,9 @@ numberAnswer line (some k) = Refused line k
 abbrev pub itemAnswer : Item → LineAnswer
 itemAnswer a = numberAnswer (itemLine a) (itemNumber a)
 
--- The line's update keeps the engine's promise; "a 10, 11 or 12 changes nothing further".
+-- The line's update keeps the engine's promise, and its answer tells the line's number with document 01's number and values of the engine's answer; "a 10, 11 or 12 changes nothing further".
 pub data Came : Item → Graph → Tables → Graph → Tables → LineAnswer → Type 0 where
-  sent : {r : Numbered} {g g′ : Graph} {t t′ : Tables} {a : Answer} {o : LineAnswer} → Promise g (r .update) t g′ a t′ → o ≡ lineAnswer (r .line) a → Came (Update r) g t g′ t′ o
+  sent : {r : Numbered} {g g′ : Graph} {t t′ : Tables} {a : Answer} {o : LineAnswer} → Promise g (r .update) t g′ a t′ → o ≡ lineAnswer (r .line) a → lineOutcome o (t′ .news) ≡ some (record { line = r .line; outcome = answerOutcome a (t′ .news) }) → Came (Update r) g t g′ t′ o
   nothing : {g : Graph} {t : Tables} → Came NoLine g t g t (itemAnswer NoLine)
   malformed : {n : ℕ} {g : Graph} {t : Tables} → Came (Malformed n) g t g t (itemAnswer (Malformed n))
   badNames : {g : Graph} {t : Tables} → Came BadNames g t g t (itemAnswer BadNames)

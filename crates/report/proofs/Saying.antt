@@ -58,8 +58,8 @@ told-text f line x (Refused m k) news status e q =
 pub line-says : {limit : ℕ} {h : History} {a : Item} {g g′ : Graph} {t t′ : Tables} {o : LineAnswer} → Standing limit h g t → Came a g t g′ t′ o → answerText o (t′ .news) (t′ .status) ≡ lineText limit h a
 unfolding lineText newsText
 line-says s nothing = refl
-line-says {limit} {h} {g = g} {g′ = g′} {t = t} {t′ = t′} {o = o} s (sent {r = r} {a = a} p e) =
-    let w = line-right s (sent {r = r} p e) in
+line-says {limit} {h} {g = g} {g′ = g′} {t = t} {t′ = t′} {o = o} s (sent {r = r} {a = a} p e q) =
+    let w = line-right s (sent {r = r} p e q) in
     told-text (status (afterItem limit h (Rattle.record.specs.declared.splitter.Item.the-variants.Update r))) (r .line) (outcomeOf limit h (Rattle.record.specs.declared.splitter.Item.the-variants.Update r)) o (t′ .news) (t′ .status) (w .0)
     (λ x k i m z. w .1 .fits .status x (rw (w .1 .states) (rw (s .states) at (by a p (sym e ∙ z) i))))
   where

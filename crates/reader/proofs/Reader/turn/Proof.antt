@@ -2,8 +2,7 @@
 -- Assumes nothing.
 use mathlib.Core.Path.{ap}
 use Rattle.record.specs.declared.splitter.Advanced.{Advanced}
-use Rattle.reader.specs.Turning.{sent}
-use Rattle.reader.proofs.Following.{came-as, came-other}
+use Rattle.reader.proofs.Following.{came-as, came-other, came-sent}
 use borrow.Author.Needs.{needs}
 use Rattle.reader.proofs.Reader.turn.Statement.{statement}
 use Rattle.reader.proofs.Reader.turn.Tie as tie
@@ -64,7 +63,7 @@ returns c =
     let f = c .before .before .before .before .before .before .before .before .before .before .before .before .before .before .before .before .before .before .before .before .before .before .before .before .before .before .before .before .before .before .before .before .before .before .before .before .before .before .before .before .before .before .before .before .feed-line .ensures in (
       ap (λ (x : Advanced). x .next) f,
       ap (λ (x : Advanced). x .splitter) f,
-      came-as (ap (λ (x : Advanced). x .item) f) (rw (c .before .before .before .before .before .before .before .before .before .before .before .before .before .before .before .before .before .before .before .before .before .before .before .before .before .before .before .before .before .before .before .before .before .before .before .before .before .before .before .before .item .given .1) (sent (c .before .before .before .before .before .before .before .before .before .before .before .before .before .before .before .before .before .before .before .before .before .before .before .before .before .before .update .ensures) (c .line-answer .ensures))),
+      came-as (ap (λ (x : Advanced). x .item) f) (rw (c .before .before .before .before .before .before .before .before .before .before .before .before .before .before .before .before .before .before .before .before .before .before .before .before .before .before .before .before .before .before .before .before .before .before .before .before .before .before .before .before .item .given .1) (came-sent (c .before .before .before .before .before .before .before .before .before .before .before .before .before .before .before .before .before .before .before .before .before .before .before .before .before .before .update .ensures) (c .line-answer .ensures))),
     )
 
 returns-2 : tie.Need-returns-2
