@@ -124,11 +124,11 @@ static size_t settle(const Engine *e, Span span, uint8_t verdict)
     return count;
 }
 
-// ---- an open state near by
+// ---- an open state near by: at most `most` successors are followed from each target
 
-static int meets_open(const Engine *e, size_t s)
+static int meets_open(const Engine *e, size_t s, size_t most)
 {
-    for (size_t left = NEAR;; left--) {
+    for (size_t left = most;; left--) {
         if (s >= e->n) return 0;
         if (e->status[s] == OPEN) return 1;
         if (e->status[s] != UNKNOWN || left == 0) return 0;
@@ -140,11 +140,17 @@ static int meets_open(const Engine *e, size_t s)
 }
 
 // 1 + the index of a step out of u from whose target successors soon lead to an open state, or 0.
-static size_t near_escape(const Engine *e, size_t u)
+static size_t escape_within(const Engine *e, size_t u, size_t most)
 {
     for (size_t p = first_of(e->out_head, u, e->steps); p > 0; p = after(e->out_next, p))
-        if (meets_open(e, e->to[p - 1])) return p;
+        if (meets_open(e, e->to[p - 1], most)) return p;
     return 0;
+}
+
+static size_t near_escape(const Engine *e, size_t u)
+{
+    size_t p = escape_within(e, u, 0);
+    return p > 0 ? p : escape_within(e, u, NEAR);
 }
 
 // ---- which visited states keep a way to an open state

@@ -1,6 +1,5 @@
 // The benchmark: the update lists of document 000's classes, as large as the tables allow, through the proved engine, the builds of the
 // same algorithm in plain C and the naive engine, all in one process. Prints tables, and writes the same to the file named by its argument.
-#include "../include/radvoinis.h"
 #include "engines.h"
 #include "page.h"
 #include <stdio.h>
@@ -389,8 +388,8 @@ static void show_classes(void)
     }
     row("over all", "", all);
     out("\n");
-    goal("proved / C over all, at most 1.15", ratio(all, GCC), ratio(all, GCC) <= 1.15);
-    goal("proved / C on the worst class, at most 1.5", worst[GCC], worst[GCC] <= 1.5);
+    goal("proved / C over all, at most 1.1", ratio(all, GCC), ratio(all, GCC) <= 1.1);
+    goal("proved / C on the worst class, at most 1.4", worst[GCC], worst[GCC] <= 1.4);
     for (int b = CLANG; b < PLAIN; b++)
         out("- proved / %s: %.2f over all, %.2f on the worst class\n", plain_name[b], ratio(all, b), worst[b]);
     goal("naive / proved over all, at least 100", naive_ns(all) / proved_ns(all), naive_ns(all) / proved_ns(all) >= 100);
@@ -438,6 +437,67 @@ static void show_growth(void)
     for (int c = 0; c < GROWING; c++) growth_row(&growing[c]);
 }
 
+// ---- the call by itself
+
+enum { CALL_RUNS = 201 };
+
+static radvoinis_tables tables;
+
+static uint32_t raw_step(update_call *update, uint32_t u, uint32_t v)
+{
+    return update(tables.n, tables.limit, &tables.steps, 'E', u, v, tables.status, tables.n, tables.marks, tables.n, tables.from, tables.limit,
+                  tables.to, tables.limit, tables.successor, tables.n, tables.news, tables.n, tables.in_head, tables.n, tables.out_head,
+                  tables.n, tables.queue, tables.n, tables.visited, tables.n, tables.in_next, tables.limit, tables.out_next, tables.limit);
+}
+
+static uint32_t step_short(uint32_t u, uint32_t v) { return radvoinis_step(&tables, u, v); }
+static uint32_t step_raw(uint32_t u, uint32_t v) { return raw_step(radvoinis_update, u, v); }
+static uint32_t step_plain(uint32_t u, uint32_t v) { return raw_step(baseline_update, u, v); }
+static uint32_t step_members(uint32_t u, uint32_t v) { return members_step(&tables, u, v); }
+
+typedef struct {
+    const char *name;
+    uint32_t (*step)(uint32_t u, uint32_t v);
+    double times[CALL_RUNS];
+} Call;
+
+static Call calls[] = {
+    {"radvoinis_step", step_short, {0}},
+    {"radvoinis_update", step_raw, {0}},
+    {"the same in plain C, by the same call", step_plain, {0}},
+    {"the same in plain C, on the struct, no length tested", step_members, {0}},
+};
+
+enum { CALLS = sizeof calls / sizeof *calls };
+
+static void time_calls(void *memory, size_t size)
+{
+    static uint32_t u[MAX_STEPS], v[MAX_STEPS];
+    for (size_t i = 0; i < MAX_STEPS; i++) u[i] = (uint32_t)below(MAX_STATES), v[i] = (uint32_t)below(MAX_STATES);
+    for (int r = 0; r < CALL_RUNS; r++)
+        for (int c = 0; c < CALLS; c++) {
+            uint32_t sum = radvoinis_tables_fresh(&tables, memory, size, MAX_STATES, MAX_STEPS);
+            double start = now();
+            for (size_t i = 0; i < MAX_STEPS; i++) sum |= calls[c].step(u[i], v[i]);
+            calls[c].times[r] = now() - start;
+            if (sum != 0 || tables.steps != MAX_STEPS) disagree(calls[c].name);
+        }
+}
+
+static void show_calls(void)
+{
+    size_t size = radvoinis_tables_size(MAX_STATES, MAX_STEPS);
+    void *memory = malloc(size);
+    progress("calls", "");
+    time_calls(memory, size);
+    progress("", "");
+    out("\n## A call by itself\n\nNanoseconds of a step that settles nothing, medians of %d runs of 8,192 random steps between 2,048 states, in turn.\n\n",
+        CALL_RUNS);
+    out("| call                                                 | ns     |\n| ---------------------------------------------------- | -----: |\n");
+    for (int c = 0; c < CALLS; c++) out("| %-52s | %6.1f |\n", calls[c].name, median(calls[c].times, CALL_RUNS) / MAX_STEPS);
+    free(memory);
+}
+
 static double empty_ns(void)
 {
     double times[RUNS];
@@ -474,5 +534,6 @@ int main(int argc, char **argv)
     show_classes();
     show_lists();
     show_growth();
+    show_calls();
     return close_page();
 }

@@ -2,6 +2,7 @@
 #ifndef ENGINES_H
 #define ENGINES_H
 
+#include "../include/radvoinis.h"
 #include <stddef.h>
 #include <stdint.h>
 
@@ -27,5 +28,8 @@ extern unsigned long list_moves;
 
 // All verdicts worked out afresh after each update.
 update_call naive_update;
+
+// A step that settles nothing, on tables that are members of a struct.
+uint32_t members_step(radvoinis_tables *t, uint32_t u, uint32_t v);
 
 #endif

@@ -18,7 +18,7 @@ first_look() {
 [ "${1:-}" = --check ] || first_look
 bash scripts/ready.sh
 for program in story explorer; do
-    gcc -std=c11 -O2 -Wall -Wextra -Werror -Iinclude "examples/$program.c" target/staticlib/libcapi.a -o "target/$program"
+    gcc -std=c11 -O2 -Wall -Wextra -Werror -Iinclude "examples/$program.c" target/lib/libradvoinis.a -o "target/$program"
 done
 
 # The verdicts of each sample record's first states, and of one out of range.
@@ -31,6 +31,11 @@ if [ "${1:-}" = --check ]; then
         verdicts "$record" | diff "${record%.record}.verdicts" -
     done
     target/story | diff examples/story.expected -
+    for argument in '' x -1 +1 ' 1' 1x 0x1 4294967296 99999999999999999999; do    # what is no state number is refused, and no verdict given
+        status=0
+        said=$(target/explorer 0 "$argument" <examples/ring_after.record 2>/dev/null) || status=$?
+        [ "$status" -eq 2 ] && [ -z "$said" ] || { echo "explorer took '$argument' for a state" && exit 1; }
+    done
 else
     for record in examples/*.record; do
         echo "== $record"

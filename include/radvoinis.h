@@ -1,5 +1,28 @@
-/* The verdict engine's calls for C. Each lent table is a pointer and a length; docs/PROMISES.md says what each call promises.
-   Numbers are those of the refusals 1 to 13; a refused call answers RADVOINIS_REFUSED plus its number. */
+/* The verdict engine for C and C++: link libradvoinis.a. radvoinis(3) is the manual page; docs/PROMISES.md says what each call promises.
+
+   An explorer lays out tables once (radvoinis_tables_fresh), sends each update as it comes (radvoinis_step, radvoinis_terminal,
+   radvoinis_close), and is told after each one how many states it settled: their numbers stand in the front of `news`, their verdicts
+   in `status`. These short calls are thin C over the raw calls below, which are proved: each promises its answer and what it leaves
+   in every table, on tables with any contents.
+
+   What a caller must see to, since no call can:
+   - Pointers. Each table is readable, and writable where it is not const, over the length that is lent with it (in a radvoinis_tables:
+     n entries, or limit entries for from, to, in_next and out_next). No pointer is NULL, also where its length is 0. Tables of 16-bit
+     entries, and the size_t of *steps and *at, are aligned as their type asks; bytes may stand anywhere.
+   - Tables do not overlap: no two of one call, and none with *steps, *at or the buffer. Two that are const may.
+   - n and limit of a radvoinis_tables stay what they were when it was laid out.
+   Everything else is tested: any numbers, lengths and table contents get an answer or the number of a refusal, a refused call changes
+   nothing, and every call ends.
+
+   Calls are reentrant. They keep nothing between them: no heap, no global, no lock. Threads may call at the same time on different
+   tables, and on the same ones where every such call takes them as const.
+
+   Stack: radvoinis_status takes 46 KiB, since its tables are local; every other call less than 1 KiB.
+
+   Cost: a step or a terminal mark that makes nothing live takes constant time, and all that do in one run together no more than the
+   steps into the states that they make live. A close looks at the steps out of its state, at no more than 17 states along each; where none of
+   them meets an open state it searches the unknown states whose way out led through it, with their steps: at the very most all
+   states and steps. bench/RESULTS.md has times: tens of nanoseconds an update. */
 #ifndef RADVOINIS_H
 #define RADVOINIS_H
 
@@ -10,11 +33,37 @@
 extern "C" {
 #endif
 
+#define RADVOINIS_VERSION "1.0.0"
+#define RADVOINIS_VERSION_MAJOR 1
+#define RADVOINIS_VERSION_MINOR 0
+#define RADVOINIS_VERSION_PATCH 0
+
+/* States are numbered from 0 to n - 1, with n from 1 to this; the step limit is from 1 to that. */
+#define RADVOINIS_MAX_STATES 2048u
+#define RADVOINIS_MAX_STEPS 8192u
+
 /* A refusal answers this plus its number. */
 #define RADVOINIS_REFUSED 65536u
 
 /* radvoinis_status answers a refusal by this plus its number. */
 #define RADVOINIS_LINE_REFUSED 16u
+
+/* The numbers of the refusals. A call answers the first that applies, in this order. */
+enum radvoinis_refusal {
+    RADVOINIS_BAD_STATES = 1,      /* n is 0 or above 2,048 */
+    RADVOINIS_BAD_LIMIT = 2,       /* the step limit is 0 or above 8,192 */
+    RADVOINIS_SHORT_TABLE = 3,     /* a lent table is too short */
+    RADVOINIS_EXCESS_STEPS = 4,    /* the number of steps is above the limit */
+    RADVOINIS_OUT_OF_RANGE = 5,    /* a state is n or more */
+    RADVOINIS_CLOSED_SOURCE = 6,   /* a step or a terminal mark from a closed state */
+    RADVOINIS_CLOSED_AGAIN = 7,    /* a close of a closed state */
+    RADVOINIS_DEAD_SOURCE = 8,     /* a step or a terminal mark from a dead state */
+    RADVOINIS_LIST_FULL = 9,       /* a step where the list is full */
+    RADVOINIS_BAD_NAMES = 10,      /* a record's first line is not the names line */
+    RADVOINIS_MALFORMED = 11,      /* a line of a record is no update; a kind that is none of E, T and C */
+    RADVOINIS_TOO_MANY_LINES = 12, /* a record has more than 65,535 lines */
+    RADVOINIS_SHORT_BUFFER = 13    /* the record does not fit the buffer */
+};
 
 /* The bytes of the status table. */
 enum radvoinis_status_byte {
@@ -25,10 +74,74 @@ enum radvoinis_status_byte {
     RADVOINIS_DEAD = 4
 };
 
+/* The bits of the marks table. */
+enum radvoinis_mark {
+    RADVOINIS_NAMED = 1,
+    RADVOINIS_TERMINAL = 2,
+    RADVOINIS_CLOSED = 4
+};
+
+/* The successor entry of a state that has none. */
+#define RADVOINIS_NO_SUCCESSOR 65535u
+
+/* ---- The short calls */
+
+/* A run's state value and its tables (docs/ARCHITECTURE.md), laid out by radvoinis_tables_fresh in memory of the caller's. The
+   caller may read all of it; between two calls nobody else writes it. A copy of the struct speaks of the same tables. */
+typedef struct radvoinis_tables {
+    size_t n;     /* the number of states */
+    size_t limit; /* the step limit */
+    size_t steps; /* the number of listed steps */
+    uint8_t *status;     /* n: an enum radvoinis_status_byte each */
+    uint8_t *marks;      /* n: the sum of an enum radvoinis_mark's bits each */
+    uint16_t *from;      /* limit: the listed steps, of which the first `steps` count */
+    uint16_t *to;        /* limit */
+    uint16_t *successor; /* n: for an unknown state, a step by which an open one is reached */
+    uint16_t *news;      /* n: the states that the last update settled, rising, in its front */
+    uint16_t *in_head;   /* n; this and what follows is the engine's own */
+    uint16_t *out_head;  /* n */
+    uint16_t *queue;     /* n */
+    uint16_t *visited;   /* n */
+    uint16_t *in_next;   /* limit */
+    uint16_t *out_next;  /* limit */
+} radvoinis_tables;
+
+/* The bytes that the tables for n states and a step limit take, or 0 where n or limit is out of bounds. */
+size_t radvoinis_tables_size(uint32_t n, uint32_t limit);
+
+/* Lays out the tables in `size` bytes of memory, at any address, and makes them fresh: no state is named, no step is listed. Answers 0; or
+   RADVOINIS_REFUSED plus 1 (n), 2 (limit) or 3 (the memory is NULL or smaller than radvoinis_tables_size says), and changes
+   nothing. The memory is the caller's, and is needed as long as the tables are. */
+uint32_t radvoinis_tables_fresh(radvoinis_tables *t, void *memory, size_t size, uint32_t n, uint32_t limit);
+
+/* The updates: a step from state to state, a terminal mark, a close. Each answers the number of its news, which stand in the front of
+   t->news, or RADVOINIS_REFUSED plus the number of its refusal (1 to 9), and then changes nothing. */
+uint32_t radvoinis_step(radvoinis_tables *t, uint32_t from, uint32_t to);
+uint32_t radvoinis_terminal(radvoinis_tables *t, uint32_t state);
+uint32_t radvoinis_close(radvoinis_tables *t, uint32_t state);
+
+/* The state's status, an enum radvoinis_status_byte; or RADVOINIS_REFUSED plus the number of the refusal (1 to 5). */
+uint32_t radvoinis_status_of(const radvoinis_tables *t, uint32_t state);
+
+/* The table check: 1 where the tables fit, 0 where they do not; see radvoinis_audit. */
+uint32_t radvoinis_check(radvoinis_tables *t);
+
+/* The record writer: fills the len bytes of buf from the index *at on; see radvoinis_write. */
+uint32_t radvoinis_save(const radvoinis_tables *t, uint8_t *buf, size_t len, size_t *at);
+
+/* ---- The call on a record's bytes */
+
+/* The status of a state after a record of 2,048 states and at most 2,048 steps: 0 to 4; or RADVOINIS_LINE_REFUSED plus the number
+   of the first refused line (5 to 12). A state of 2,048 or more answers 21, tested first. */
+uint8_t radvoinis_status(const uint8_t *record, size_t record_len, uint32_t state);
+
+/* ---- The raw calls: each table a pointer and a length, wherever the caller keeps it. */
+
 /* One update on the caller's tables: kind is 'E' (a step from first to second), 'T' (a terminal mark on first) or 'C' (a close
    of first). Answers the number of its news, which stand in the front of the news list, and brings *steps up to date; or
    RADVOINIS_REFUSED plus the number of its refusal (1 to 9; 11 for any other kind, tested behind 1 to 4), and changes nothing.
-   Needed lengths: n for status, marks, successor, news, in_head, out_head, queue, visited; limit for from, to, in_next, out_next. */
+   Needed lengths: n for status, marks, successor, news, in_head, out_head, queue, visited; limit for from, to, in_next, out_next.
+   Fresh tables are all zero, with 65,535 in every successor entry; *steps is 0. */
 uint32_t radvoinis_update(size_t n, size_t limit, size_t *steps, uint8_t kind, size_t first, size_t second,
                           uint8_t *status, size_t status_len, uint8_t *marks, size_t marks_len,
                           uint16_t *from, size_t from_len, uint16_t *to, size_t to_len,
@@ -59,10 +172,6 @@ uint32_t radvoinis_audit(size_t n, size_t limit, size_t steps,
 uint32_t radvoinis_write(size_t n, size_t limit, size_t steps, const uint8_t *marks, size_t marks_len,
                          const uint16_t *from, size_t from_len, const uint16_t *to, size_t to_len,
                          uint8_t *buf, size_t buf_len, size_t *at);
-
-/* The status of a state after a record of 2,048 states and at most 2,048 steps: 0 to 4; or RADVOINIS_LINE_REFUSED plus the number
-   of the first refused line (5 to 12). A state of 2,048 or more answers 21, tested first. */
-uint8_t radvoinis_status(const uint8_t *record, size_t record_len, uint32_t state);
 
 #ifdef __cplusplus
 }

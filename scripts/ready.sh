@@ -1,11 +1,12 @@
 #!/usr/bin/env bash
-# Makes ready what the tests, the benchmark and the examples run: the programs target/bin/listing and target/bin/draw, and the library for
-# C, target/staticlib/libcapi.a. Proves and builds what is missing or older than its sources, with a line for each crate as it is proved;
-# silent where there is nothing to do.
+# Makes ready what is installed, and what the tests, the benchmark and the examples run: the programs target/bin/listing and target/bin/draw,
+# and the library for C, target/lib/libradvoinis.a. Proves and builds what is missing or older than its sources, with a line for each crate
+# as it is proved; silent where there is nothing to do.
 set -euo pipefail
 cd "$(dirname "$0")/.."
 programs="listing draw"
-library=target/staticlib/libcapi.a
+exports="capi capi_record"    # the crates whose calls the library has, an object each, beside the short calls in C
+library=target/lib/libradvoinis.a
 log=$(mktemp)
 trap 'rm -f "$log"' EXIT
 
@@ -22,10 +23,11 @@ reached() { # NAME..
         END { count = split(names, wanted, " "); for (i = 1; i <= count; i++) visit(wanted[i]) }' crates.txt
 }
 
-# rt keeps no stamp of a library for C, so this is one: the kit, the sources of the crates in it, and the library itself.
+# rt keeps no stamp of a library for C, so this is one: the kit, the sources of the library, and the library itself.
 sources=$({
     rt version
-    reached capi | while read -r crate; do find "crates/$crate" -type f ! -path '*/must-fail/*' -print0; done | sort -z | xargs -0 sha256sum
+    sha256sum scripts/ready.sh c/* include/*
+    reached $exports | while read -r crate; do find "crates/$crate" -type f ! -path '*/must-fail/*' -print0; done | sort -z | xargs -0 sha256sum
 } | sha256sum)
 stamp() { echo "$sources" && sha256sum "$library"; }
 library_ready() { [ -f "$library" ] && stamp | cmp -s - "$library.stamp"; }
@@ -49,13 +51,24 @@ prove() { # LEFT COMMAND..
 for program in $programs; do
     [ -x "target/bin/$program" ] || rm -f "target/stamp/$program"    # its proof alone does not bring it back
 done
-below= library_left=0
-if ! library_ready; then below=$(reached capi | grep -vx capi) library_left=1; fi
-prove $(($(reached $programs $below | wc -l) + library_left)) rt check $programs $below
-if [ "$library_left" -eq 1 ]; then
-    rm -f "$library.stamp"
-    began=$SECONDS
-    prove 0 rt staticlib capi
+below= left=0
+if ! library_ready; then
+    below=$(reached $exports | grep -vxF "$(tr ' ' '\n' <<<"$exports")")
+    left=$(wc -w <<<"$exports")
+fi
+prove $(($(reached $programs $below | wc -l) + left)) rt check $programs $below
+if [ "$left" -gt 0 ]; then
+    rm -rf target/lib
+    mkdir -p target/lib
+    for crate in $exports; do
+        left=$((left - 1))
+        began=$SECONDS
+        prove "$left" rt staticlib "$crate"
+        echo "proved $crate for the library, $((SECONDS - began)) s; ${left/#0/none} left"
+        (cd target/lib && ar x "../staticlib/lib$crate.a" "$crate.o")
+    done
+    gcc -std=c11 -O2 -fPIC -Wall -Wextra -Werror -Iinclude -c c/tables.c -o target/lib/tables.o
+    ar rcsD "$library" target/lib/*.o
     stamp >"$library.stamp"
-    echo "proved capi and built $library, $((SECONDS - began)) s"
+    echo "built $library"
 fi

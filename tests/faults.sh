@@ -1,6 +1,6 @@
 #!/usr/bin/env bash
 # Plants faults in the calls and the programs in plain C (the engine of bench/baseline.c; tests/calls.c, tests/lister.c and
-# tests/drawer.c over the naive definitions), one at a time, and runs the suite that must catch them on each, shortened: it must, and each
+# tests/drawer.c over the naive definitions; the short calls of c/tables.c), one at a time, and runs the suite that must catch them on each, shortened: it must, and each
 # suite must pass what has no fault. With names of suites as arguments, those faults alone; with --few, a dozen of all suites. All take
 # about ten minutes, the few one. The last line is 'N passed, M failed'.
 set -u
@@ -22,7 +22,7 @@ compile() { gcc $flags -Dbaseline_update=radvoinis_update -c "$dir/$1" -o "$dir/
 for file in $wanted $shared; do
     gcc $flags -c tests/$file.c -o "$dir/suites/$file.o" || exit 2
 done
-cp bench/baseline.c tests/{calls,fitting,reading,writing,reference}.c "$dir/library/"
+cp bench/baseline.c c/tables.c tests/{calls,fitting,reading,writing,reference}.c "$dir/library/"
 cp tests/{lister,standard,reading,reference}.c "$dir/lister/"
 cp tests/{drawer,standard,drawing,fitting,reading,reference}.c "$dir/drawer/"
 for file in $(cd "$dir" && echo {library,lister,drawer}/*.c); do
@@ -63,6 +63,7 @@ fault() { # NAME SCRIPT [FILE] [SUITE]
 
 call_fault() { fault "$1" "$2" library/calls.c "${3:-harness}"; }
 fitting_fault() { fault "$1" "$2" library/fitting.c damage; }
+short_fault() { fault "$1" "$2" library/tables.c short_calls; }
 writing_fault() { fault "$1" "$2" library/writing.c buffers; }
 status_fault() { fault "$1" "$2" library/reading.c records; }
 listing_fault() { fault "$1" "$2" "lister/${3:-reading}.c" records; }
@@ -332,6 +333,36 @@ for table in from to; do
 done
 fault "what was written is not read: status" "$(within reading_line 's/    Update u = update_of(line, length);/&\n    if (u.kind == 67 \&\& number > 4) return 1;/')" library/reading.c buffers
 fault "what was written is not read: listing" "$(within reading_line 's/    Update u = update_of(line, length);/&\n    if (u.kind == 67 \&\& number > 4) return 1;/')" lister/reading.c buffers
+
+# the short calls
+short_fault "one byte too few" 's/ + 1;/;/'
+short_fault "a size for any n" "$(within radvoinis_tables_size 's/!states_in_bounds(n) || //')"
+short_fault "a size for any limit" "$(within radvoinis_tables_size 's/ || !limit_in_bounds(limit)//')"
+short_fault "2,049 states laid out" 's/n <= RADVOINIS_MAX_STATES/n <= RADVOINIS_MAX_STATES + 1/'
+short_fault "2 before 1" "$(within radvoinis_tables_fresh '/BAD_LIMIT/d; s/^    if (!states_in_bounds(n)).*/    if (!limit_in_bounds(limit)) return RADVOINIS_REFUSED + RADVOINIS_BAD_LIMIT;\n&/')"
+short_fault "memory that is too small is taken" "$(within radvoinis_tables_fresh 's/size < radvoinis_tables_size(n, limit)/size + 1 < radvoinis_tables_size(n, limit)/')"
+short_fault "NULL is taken" "$(within radvoinis_tables_fresh 's/memory == NULL || //')"
+short_fault "a refusal changes the struct" "$(within radvoinis_tables_fresh 's/^    if (memory == NULL/    t->steps = 0;\n&/')"
+short_fault "an odd address is taken as it is" 's/ + (uintptr_t)memory % sizeof(uint16_t)//'
+few=1 short_fault "two tables in one place" 's/t->to = take(&at, limit)/t->to = t->from, take(\&at, limit)/'
+short_fault "a table past the memory" 's/t->visited = take(&at, n)/t->visited = take(\&at, 2 * (size_t)n)/'
+short_fault "a limit's table for each state" 's/t->out_next = take(&at, limit)/t->out_next = take(\&at, n)/'
+short_fault "the steps are not begun anew" 's/    t->steps = 0;//'
+short_fault "visited marks are left" "$(within radvoinis_tables_fresh 's/^    return 0;/    t->visited[0] = 1;\n&/')"
+short_fault "no successors are taken for the first step" 's/    memset(t->successor, 0xff.*//'
+short_fault "memory behind the tables is cleared" 's/t->marks + n - /t->marks + n + 1 - /'
+few=1 short_fault "a close sent for a terminal mark" "s/send(t, 'T', state, 0)/send(t, 'C', state, 0)/"
+short_fault "the ends of a step exchanged" "s/send(t, 'E', from, to)/send(t, 'E', to, from)/"
+short_fault "states in sixteen bits" 's/kind, first, second,/kind, (uint16_t)first, (uint16_t)second,/'
+short_fault "the number of steps is not brought on" 's/    return radvoinis_update(t->n, t->limit, &t->steps,/    size_t steps = t->steps; return radvoinis_update(t->n, t->limit, \&steps,/'
+short_fault "queue and visited marks exchanged" "$(within send 's/t->queue/t->other/; s/t->visited/t->queue/; s/t->other/t->visited/')"
+short_fault "lists in and out exchanged" "$(within send 's/t->in_next/t->other/; s/t->out_next/t->in_next/; s/t->other/t->out_next/')"
+short_fault "the question of another state" 's/t->status, t->n, state)/t->status, t->n, state + 1)/'
+short_fault "the question forgets the steps" "$(within radvoinis_status_of 's/t->limit, t->steps/t->limit, 0/')"
+short_fault "the check of other lists" "$(within radvoinis_check 's/t->in_head/t->out_head/')"
+short_fault "the record of no steps" "$(within radvoinis_save 's/t->limit, t->steps/t->limit, 0/')"
+short_fault "the record's steps backwards" "$(within radvoinis_save 's/t->from/t->other/; s/t->to,/t->from,/; s/t->other/t->to/')"
+short_fault "a buffer of one byte more" "$(within radvoinis_save 's/buf, len, at/buf, len + 1, at/')"
 
 echo "$passed passed, $failed failed"
 [ "$failed" -eq 0 ]

@@ -19,7 +19,7 @@ done
 passed=0 failed=0
 for suite in $suites; do
     echo "== tests/$suite.c"
-    compile "tests/$suite.c" "${objects[@]}" target/staticlib/libcapi.a -o "$dir/$suite"
+    compile "tests/$suite.c" "${objects[@]}" target/lib/libradvoinis.a -o "$dir/$suite"
     status=0
     "$dir/$suite" "$@" >"$dir/$suite.out" || status=$?
     cat "$dir/$suite.out"

@@ -1,3 +1,3 @@
 # The suites, and the files that they share.
-suites="harness damage records buffers drawings"
+suites="harness short_calls damage records buffers drawings"
 shared="groups table lent runs wild fitting reading writing drawing program making ending reference"

@@ -9,17 +9,14 @@ ghost use lib.ListN.{length};
 ghost use Rattle.tables.specs.Refused.{statusAnswer};
 ghost use Rattle.tables.specs.Tables.{tablesOf};
 ghost use Rattle.writer.specs.Answering.{writeAnswer, bufferAfter};
-ghost use Rattle.query.specs.Answering.{answerOf};
 ghost use Rattle.capi.specs.Calls.{kindBy, kindRefusal, Called, codeBy, AuditCalled, placeAfter};
 use audit::Audit;
 use engine::Answer;
 use engine::Engine;
 use gid::Update;
-use reader::RECORD_LIMIT;
 use record::MALFORMED;
 use tables::Graph;
 use tables::Lengths;
-use tables::MAX_STATES;
 use tables::Status;
 use writer::Written;
 
@@ -230,39 +227,4 @@ pub extern "C" fn radvoinis_write(
         }
         Written::Refused(number) => REFUSED + number as u32,
     }
-}
-
-// The status of a state after a record, 0 to 4, or 16 plus the number of the first refused line. "A state of 2,048 or more counts as refusal 5 and is tested first."
-#[no_mangle]
-pub extern "C" fn radvoinis_status(bytes: &[u8], state: u32) -> u8
-    ensures { λ r. ⌜ r ≡ answerOf (now (bytes .entry)) state ⌝ }
-{
-    let mut status = [0u8; MAX_STATES];
-    let mut marks = [0u8; MAX_STATES];
-    let mut from = [0u16; RECORD_LIMIT];
-    let mut to = [0u16; RECORD_LIMIT];
-    let mut successor = [0u16; MAX_STATES];
-    let mut news = [0u16; MAX_STATES];
-    let mut in_head = [0u16; MAX_STATES];
-    let mut out_head = [0u16; MAX_STATES];
-    let mut queue = [0u16; MAX_STATES];
-    let mut visited = [0u16; MAX_STATES];
-    let mut in_next = [0u16; RECORD_LIMIT];
-    let mut out_next = [0u16; RECORD_LIMIT];
-    query::status_after(
-        bytes,
-        state as usize,
-        &mut status,
-        &mut marks,
-        &mut from,
-        &mut to,
-        &mut successor,
-        &mut news,
-        &mut in_head,
-        &mut out_head,
-        &mut queue,
-        &mut visited,
-        &mut in_next,
-        &mut out_next,
-    )
 }

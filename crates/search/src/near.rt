@@ -15,7 +15,8 @@ use tables::wide;
 // How many successors are followed from each target. Measured: with none, or with no bound, some lines cost millions of list moves.
 pub const NEAR: usize = 16;
 
-// 1 + the index of a step out of u from whose target at most NEAR successors lead to an open state, or 0.
+// 1 + the index of a step out of u from whose target at most NEAR successors lead to an open state, or 0. A step to an open state is looked for
+// first: where many targets are unknown, following them all costs more than a second walk.
 pub fn near_escape(
     n: usize,
     steps: usize,
@@ -32,9 +33,34 @@ pub fn near_escape(
     ensures { λ r. ⌜ Escape (arcs n steps (now (to .entry)) (now («out_head» .entry)) (now («out_next» .entry)))
         (now (status .entry)) (now (successor .entry)) u r ⌝ }
 {
+    let p = escape_within(0, n, steps, u, to, out_head, out_next, status, successor);
+    if 0 < p {
+        return p;
+    }
+    escape_within(NEAR, n, steps, u, to, out_head, out_next, status, successor)
+}
+
+// The same with at most `most` successors followed.
+fn escape_within(
+    most: usize,
+    n: usize,
+    steps: usize,
+    u: usize,
+    to: &[u16],
+    out_head: &[u16],
+    out_next: &[u16],
+    status: &[u8],
+    successor: &[u16],
+) -> usize
+    requires { ⌜ (u < n) × (most < 65536) ⌝ }
+    requires { ⌜ Walkable (arcs n steps (now to) (now «out_head») (now «out_next»)) ⌝ }
+    requires { ⌜ (n ≤ length (now status)) × (n ≤ length (now successor)) ⌝ }
+    ensures { λ r. ⌜ Escape (arcs n steps (now (to .entry)) (now («out_head» .entry)) (now («out_next» .entry)))
+        (now (status .entry)) (now (successor .entry)) u r ⌝ }
+{
     let mut p = first(out_head, u, steps);
     while 0 < p {
-        if meets_open(n, steps, target(p - 1, to), to, status, successor) {
+        if meets_open(most, n, steps, target(p - 1, to), to, status, successor) {
             return p;
         }
         p = after(out_next, p);
@@ -42,8 +68,9 @@ pub fn near_escape(
     0
 }
 
-// Whether one of start and the NEAR states after it along successors is open.
+// Whether one of start and the `most` states after it along successors is open.
 fn meets_open(
+    most: usize,
     n: usize,
     steps: usize,
     start: usize,
@@ -51,11 +78,11 @@ fn meets_open(
     status: &[u8],
     successor: &[u16],
 ) -> bool
-    requires { ⌜ (steps ≤ length (now to)) × (n ≤ length (now status)) × (n ≤ length (now successor)) ⌝ }
+    requires { ⌜ (most < 65536) × (steps ≤ length (now to)) × (n ≤ length (now status)) × (n ≤ length (now successor)) ⌝ }
     ensures { λ r. ⌜ (r ≡ true → Near (byTarget n steps (now (to .entry))) (now (status .entry)) (now (successor .entry)) start) ⌝ }
 {
     let mut s = start;
-    let mut left = NEAR + 1;
+    let mut left = most + 1;
     while 0 < left {
         if n <= s {
             return false;

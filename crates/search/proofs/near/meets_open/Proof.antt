@@ -9,11 +9,11 @@ use Rattle.search.proofs.near.meets_open.Statement.{statement}
 use Rattle.search.proofs.near.meets_open.Tie as tie
 
 abbrev Inv-loop : tie.InvT-loop
-Inv-loop n steps start to status successor s₀ left₀ s left =
+Inv-loop most n steps start to status successor s₀ left₀ s left =
     Near (byTarget n steps to) status successor s → Near (byTarget n steps to) status successor start
 
 abbrev μ-loop : tie.MeasureT-loop
-μ-loop n steps start to status successor s₀ left₀ s left = left
+μ-loop most n steps start to status successor s₀ left₀ s left = left
 
 add-left : tie.Need-add-left Inv-loop μ-loop
 add-left c = omega arith

@@ -3,8 +3,8 @@
 use mathlib.Core.Path.{_∙_, refl}
 use Rattle.query.proofs.Asking.{answer-opened}
 use borrow.Author.Needs.{needs}
-use Rattle.capi.proofs.radvoinis_status.Statement.{statement}
-use Rattle.capi.proofs.radvoinis_status.Tie as tie
+use Rattle.capi_record.proofs.radvoinis_status.Statement.{statement}
+use Rattle.capi_record.proofs.radvoinis_status.Tie as tie
 
 slice-aggregate-status-after : tie.Need-slice-aggregate-status-after
 slice-aggregate-status-after c = search needs

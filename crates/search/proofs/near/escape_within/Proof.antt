@@ -1,18 +1,18 @@
--- `near_escape` answers a step out of u. The invariant: the walk stands at a step out of u. The measure is its place.
+-- `escape_within` answers a step out of u. The invariant: the walk stands at a step out of u. The measure is its place.
 -- Assumes nothing.
 use mathlib.Core.Path.{refl}
 use mathlib.Core.Logic.{inl, inr}
 use Prim.Native.Nat.{_-_}
 use native.Mathlib.Omega.{arith}
 use Rattle.search.proofs.Walking.{Walking, walk-first, walk-here, walk-next}
-use Rattle.search.proofs.near.near_escape.Statement.{statement}
-use Rattle.search.proofs.near.near_escape.Tie as tie
+use Rattle.search.proofs.near.escape_within.Statement.{statement}
+use Rattle.search.proofs.near.escape_within.Tie as tie
 
 abbrev Inv-loop : tie.InvT-loop
-Inv-loop n steps u to out-head out-next status successor p₀ p = Walking out-head out-next steps u (λ _. Unit {0}) p
+Inv-loop most n steps u to out-head out-next status successor p₀ p = Walking out-head out-next steps u (λ _. Unit {0}) p
 
 abbrev μ-loop : tie.MeasureT-loop
-μ-loop n steps u to out-head out-next status successor p₀ p = p
+μ-loop most n steps u to out-head out-next status successor p₀ p = p
 
 first-requires : tie.Need-first-requires Inv-loop μ-loop
 first-requires c κs = omega arith
@@ -48,8 +48,8 @@ loop-again c =
 returns-2 : tie.Need-returns-2 Inv-loop μ-loop
 returns-2 c = inl refl
 
-pub near-escape-spec : {M : Type 1} → statement M
-near-escape-spec =
+pub escape-within-spec : {M : Type 1} → statement M
+escape-within-spec =
     tie.close
     (tie.spec
     Inv-loop
