@@ -7,8 +7,9 @@
 
    What a caller must see to, since no call can:
    - Pointers. Each table is readable, and writable where it is not const, over the length that is lent with it (in a radvoinis_tables:
-     n entries, or limit entries for from, to, in_next and out_next). No pointer is NULL, also where its length is 0. Tables of 16-bit
-     entries, and the size_t of *steps and *at, are aligned as their type asks; bytes may stand anywhere.
+     n entries, or limit entries for from, to, in_next and out_next). No pointer is NULL, also where its length is 0 (the memory
+     handed to radvoinis_tables_fresh may be). Tables of 16-bit entries, and the size_t of *steps and *at, are aligned as their type
+     asks; bytes may stand anywhere.
    - Tables do not overlap: no two of one call, and none with *steps, *at or the buffer. Two that are const may.
    - n and limit of a radvoinis_tables stay what they were when it was laid out.
    Everything else is tested: any numbers, lengths and table contents get an answer or the number of a refusal, a refused call changes
@@ -19,10 +20,10 @@
 
    Stack: radvoinis_status takes 46 KiB, since its tables are local; every other call less than 1 KiB.
 
-   Cost: a step or a terminal mark that makes nothing live takes constant time, and all that do in one run together no more than the
-   steps into the states that they make live. A close looks at the steps out of its state, at no more than 17 states along each; where none of
-   them meets an open state it searches the unknown states whose way out led through it, with their steps: at the very most all
-   states and steps. bench/RESULTS.md has times: tens of nanoseconds an update. */
+   Cost: a step or a terminal mark that makes nothing live takes constant time; one that does walks the steps into each state that it
+   makes live, once, and looks at the numbers between the least and the greatest of them. A close looks at the steps out of its
+   state, and at no more than 17 states along each; where it meets no open state there, it searches the unknown states whose way out
+   led through it, with their steps, at the very most all states and steps. Tens of nanoseconds an update: bench/RESULTS.md. */
 #ifndef RADVOINIS_H
 #define RADVOINIS_H
 
