@@ -1,5 +1,5 @@
-// The picture by its format: a line for each state that has a status from 1 to 4, then every listed step in order, bold where it is its
-// source's successor.
+// The picture by its format: a line for each state that has a status from 1 to 4, with a double border where it is terminal, then every
+// listed step in order, bold where it is its source's successor.
 #include "drawing.h"
 #include "fitting.h"
 #include <string.h>
@@ -9,18 +9,19 @@ static const char bold_end[] = " [style=bold];";
 
 enum { OPENING_LINES = 3 };
 
-static void write_state(size_t s, uint8_t status, FILE *picture)
+static void write_state(size_t s, uint8_t status, uint8_t marks, FILE *picture)
 {
     static const char *const words[] = {"unseen", "open", "unknown", "live", "dead"};
     static const char *const colours[] = {"", "#ffffff", "#ffe08a", "#a8dba0", "#f0a8a0"};
-    if (status != UNSEEN) fprintf(picture, "  %zu [label=\"%zu %s\", fillcolor=\"%s\"];\n", s, s, words[status], colours[status]);
+    const char *border = marks & TERMINAL ? ", peripheries=2" : "";
+    if (status != UNSEEN) fprintf(picture, "  %zu [label=\"%zu %s\", fillcolor=\"%s\"%s];\n", s, s, words[status], colours[status], border);
 }
 
 void drawing_write(const Reading *r, const uint8_t *bold, FILE *picture)
 {
     size_t p = 0;
     fprintf(picture, "%s", opening);
-    for (size_t s = 0; s < MOST_STATES; s++) write_state(s, r->status[s], picture);
+    for (size_t s = 0; s < MOST_STATES; s++) write_state(s, r->status[s], r->marks[s], picture);
     for (size_t i = 0; i < r->history.count; i++) {
         Update u = r->history.accepted[i];
         if (u.kind == 'E') fprintf(picture, "  %zu -> %zu%s\n", u.first, u.second, bold[p++] ? bold_end : ";");

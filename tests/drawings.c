@@ -21,7 +21,7 @@ static const char *const check_names[CHECKS] = {
     "a sample picture",
 };
 
-static unsigned long runs, drawn[5], steps_drawn, bold_drawn;
+static unsigned long runs, drawn[5], terminal_drawn, steps_drawn, bold_drawn;
 static size_t longest_way;
 
 // ---- the record in hand held to the naive picture
@@ -35,7 +35,7 @@ static size_t picture_length;
 static void count_drawn(void)
 {
     runs++, steps_drawn += reading.history.steps;
-    for (size_t s = 0; s < MOST_STATES; s++) drawn[reading.status[s]]++;
+    for (size_t s = 0; s < MOST_STATES; s++) drawn[reading.status[s]]++, terminal_drawn += (reading.marks[s] & TERMINAL) != 0;
     for (size_t p = 0; p < reading.history.steps; p++) bold_drawn += bold[p];
 }
 
@@ -62,7 +62,8 @@ static void hold_record(size_t piece)
     hold_picture(output);
 }
 
-// ---- samples, in which there is one choice of successors
+// ---- samples, in which there is one choice of successors; the last has terminal states, which are live, open and closed in their marks,
+// beside live states that are not terminal and refused marks
 
 typedef struct {
     const char *lines, *picture;    // below the names line, and between opening and end
@@ -75,8 +76,13 @@ static const Sample samples[] = {
      "  2 [label=\"2 open\", fillcolor=\"#ffffff\"];\n  0 -> 1 [style=bold];\n  1 -> 0;\n  1 -> 2 [style=bold];\n"},
     {"E 7 7\nE 7 12\nT 12 -\nC 12 -\nE 12 7\nC 2047 -\nE 2047 0\nE 0 2047\nX\n",
      "  0 [label=\"0 open\", fillcolor=\"#ffffff\"];\n  7 [label=\"7 live\", fillcolor=\"#a8dba0\"];\n"
-     "  12 [label=\"12 live\", fillcolor=\"#a8dba0\"];\n  2047 [label=\"2047 dead\", fillcolor=\"#f0a8a0\"];\n"
+     "  12 [label=\"12 live\", fillcolor=\"#a8dba0\", peripheries=2];\n  2047 [label=\"2047 dead\", fillcolor=\"#f0a8a0\"];\n"
      "  7 -> 7;\n  7 -> 12;\n  0 -> 2047;\n"},
+    {"E 0 1\nT 1 -\nE 1 2\nC 1 -\nT 1 -\nT 3 -\nT 3 -\nE 4 3\nC 4 -\nT 4 -\nC 5 -\nT 5 -\nE 6 2\nC 6 -\nT 6 -\nT 2048 -\n",
+     "  0 [label=\"0 live\", fillcolor=\"#a8dba0\"];\n  1 [label=\"1 live\", fillcolor=\"#a8dba0\", peripheries=2];\n"
+     "  2 [label=\"2 open\", fillcolor=\"#ffffff\"];\n  3 [label=\"3 live\", fillcolor=\"#a8dba0\", peripheries=2];\n"
+     "  4 [label=\"4 live\", fillcolor=\"#a8dba0\"];\n  5 [label=\"5 dead\", fillcolor=\"#f0a8a0\"];\n"
+     "  6 [label=\"6 unknown\", fillcolor=\"#ffe08a\"];\n  0 -> 1;\n  1 -> 2;\n  4 -> 3;\n  6 -> 2 [style=bold];\n"},
 };
 
 static void group_samples(void)
@@ -168,6 +174,14 @@ static void group_longest_way(void)
     check(CHECK_BOLD, longest_way == 2048);
 }
 
+// As many terminal states and steps as there can be.
+static void group_fullest(void)
+{
+    start_record();
+    for (size_t s = 0; s < 2048; s++) add("T %zu -\nE %zu %zu\n", s, s, 2047 - s);
+    hold_record(0);
+}
+
 // ---- the series of records
 
 static void group_valid(void) { valid_records(rounds(300), hold_record); }
@@ -195,6 +209,7 @@ static const Group groups[] = {
     {"explorers' records, up to 12 states", group_explored},
     {"explorers' records, up to 2,048 states", group_explored_large},
     {"the longest way to an open state", group_longest_way},
+    {"as many terminal states and steps as there can be", group_fullest},
     {"valid records", group_valid},
     {"records up to the step limit and past it", group_full_list},
     {"damaged records", group_damaged},
@@ -209,8 +224,9 @@ static const Group groups[] = {
 
 static void show_counts(void)
 {
-    printf("%lu pictures; states drawn open: %lu, unknown: %lu, live: %lu, dead: %lu; %lu steps, %lu of them bold, at most %zu in a way\n",
-           runs, drawn[OPEN], drawn[UNKNOWN], drawn[LIVE], drawn[DEAD], steps_drawn, bold_drawn, longest_way - 1);
+    printf("%lu pictures; states drawn open: %lu, unknown: %lu, live: %lu, %lu of them terminal, dead: %lu; ", runs, drawn[OPEN],
+           drawn[UNKNOWN], drawn[LIVE], terminal_drawn, drawn[DEAD]);
+    printf("%lu steps, %lu of them bold, at most %zu in a way\n", steps_drawn, bold_drawn, longest_way - 1);
 }
 
 int main(int argc, char **argv)

@@ -297,9 +297,13 @@ drawing_fault "refused steps drawn" "$(within reading_line 's/    refusal ? refu
 drawing_fault "an equal step drawn once" "$(within drawing_write 's/if (u.kind == .E.)/if (u.kind == 69 \&\& !(i > 0 \&\& memcmp(\&u, \&r->history.accepted[i - 1], sizeof u) == 0))/')"
 few=1 drawing_fault "live and dead exchanged" 's/"live", "dead"/"dead", "live"/'
 drawing_fault "the colours of open and unknown exchanged" 's/"#ffffff", "#ffe08a"/"#ffe08a", "#ffffff"/'
+drawing_fault "a terminal state with a single border" 's/", peripheries=2"/""/'
+drawing_fault "a double border on a closed state" "$(within write_state 's/marks & TERMINAL/marks \& CLOSED/')"
+drawing_fault "a double border on every live state" "$(within write_state 's/marks & TERMINAL/status == LIVE/')"
+drawing_fault "a terminal state that is closed has a single border" "$(within write_state 's/marks & TERMINAL/(marks \& 6) == TERMINAL/')"
 drawing_fault "unseen states drawn" "$(within write_state 's/if (status != UNSEEN) //')"
 drawing_fault "state 2,047 not drawn" "$(within drawing_write 's/s < MOST_STATES/s < MOST_STATES - 1/')"
-drawing_fault "states falling" "$(within drawing_write 's/write_state(s, r->status\[s\]/write_state(2047 - s, r->status[2047 - s]/')"
+drawing_fault "states falling" "$(within drawing_write 's/write_state(s, r->status\[s\], r->marks\[s\]/write_state(2047 - s, r->status[2047 - s], r->marks[2047 - s]/')"
 drawing_fault "no end" 's/    fprintf(picture, "}.n");//'
 drawing_fault "the picture of the first refusal" "$(within reading_line 's/    return 1;/    return !refusal;/')" reading
 drawing_fault "a limit of 2,047 steps drawn" "$(within reading_start 's/MOST_STATES, limit)/MOST_STATES, limit - 1)/')" reading

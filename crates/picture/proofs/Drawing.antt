@@ -1,6 +1,7 @@
 -- The texts of the picture, one more at a time, and a line made of its parts.
 -- Assumes nothing.
 use mathlib.Core.Path.{_≡_, refl}
+use mathlib.Core.Bool.{Bool}
 use mathlib.Core.List.{List, [], _∷_}
 use Prim.Native.Nat.{ℕ, zero, suc, _+_, _≤_, _<_}
 use native.Mathlib.Omega.{arith}
@@ -18,18 +19,18 @@ read-same (x ∷ l) zero a b h = refl
 read-same (x ∷ l) (suc i) a b h = read-same l i a b (omega arith)
 
 -- nothing is drawn yet
-pub no-states : (f : ℕ → ℕ) (at : ℕ) (d : List ℕ) → WroteAt at (statesText 0 f) d d at
+pub no-states : (f : ℕ → ℕ) (marked : ℕ → Bool) (at : ℕ) (d : List ℕ) → WroteAt at (statesText 0 f marked) d d at
 unfolding statesText
-no-states f at d = placed-none at d
+no-states f marked at d = placed-none at d
 
 pub no-steps : (from to successor : ℕ → ℕ) (at : ℕ) (d : List ℕ) → WroteAt at (stepsText 0 from to successor) d d at
 unfolding stepsText
 no-steps from to successor at d = placed-none at d
 
 -- one state more
-pub states-on : (f : ℕ → ℕ) (s : ℕ) {at : ℕ} {d e g : List ℕ} {r k : ℕ} → WroteAt at (statesText s f) d e r → WroteAt r (stateText (f s) s) e g k → k ≤ length d → WroteAt at (statesText (s + 1) f) d g k
+pub states-on : (f : ℕ → ℕ) (marked : ℕ → Bool) (s : ℕ) {at : ℕ} {d e g : List ℕ} {r k : ℕ} → WroteAt at (statesText s f marked) d e r → WroteAt r (stateText (f s) (marked s) s) e g k → k ≤ length d → WroteAt at (statesText (s + 1) f marked) d g k
 unfolding statesText
-states-on f s w v h = rw (add-one s) (placed-on w v h)
+states-on f marked s w v h = rw (add-one s) (placed-on w v h)
 
 -- one step more
 pub steps-on : (from to successor : ℕ → ℕ) (p : ℕ) {at : ℕ} {d e g : List ℕ} {r k : ℕ} → WroteAt at (stepsText p from to successor) d e r → WroteAt r (stepText (from p) (to p) (eqb (successor (from p)) p)) e g k → k ≤ length d → WroteAt at (stepsText (p + 1) from to successor) d g k
@@ -46,9 +47,9 @@ line-placed a middle b ending w₁ w₂ w₃ w₄ w₅ h =
     placed-on (placed-on (placed-on (placed-on w₁ w₂ (omega arith)) w₃ (omega arith)) w₄ (omega arith)) w₅ h
 
 -- the picture of its four parts
-pub drawn : (m : ℕ) (f from to successor : ℕ → ℕ) {at : ℕ} {d e₁ e₂ e₃ e₄ : List ℕ} {r₁ r₂ r₃ r₄ : ℕ} → WroteAt at opening d e₁ r₁ → WroteAt r₁ (statesText 2048 f) e₁ e₂ r₂ → WroteAt r₂ (stepsText m from to successor) e₂ e₃ r₃ → WroteAt r₃ closing e₃ e₄ r₄ → r₄ ≤ length d → WroteAt at (drawing m f from to successor) d e₄ r₄
+pub drawn : (m : ℕ) (f : ℕ → ℕ) (marked : ℕ → Bool) (from to successor : ℕ → ℕ) {at : ℕ} {d e₁ e₂ e₃ e₄ : List ℕ} {r₁ r₂ r₃ r₄ : ℕ} → WroteAt at opening d e₁ r₁ → WroteAt r₁ (statesText 2048 f marked) e₁ e₂ r₂ → WroteAt r₂ (stepsText m from to successor) e₂ e₃ r₃ → WroteAt r₃ closing e₃ e₄ r₄ → r₄ ≤ length d → WroteAt at (drawing m f marked from to successor) d e₄ r₄
 unfolding drawing
-drawn m f from to successor w₁ w₂ w₃ w₄ h =
+drawn m f marked from to successor w₁ w₂ w₃ w₄ h =
     let q₄ = w₄ .after in
     let q₃ = w₃ .after in
     placed-on (placed-on (placed-on w₁ w₂ (omega arith)) w₃ (omega arith)) w₄ h

@@ -1,6 +1,7 @@
 -- What is drawn from a reader's tables is the picture of the accepted history.
 -- Assumes nothing.
 use mathlib.Core.Path.{_≡_, refl, sym, _∙_, ap, subst}
+use mathlib.Core.Bool.{Bool}
 use mathlib.Core.List.{List}
 use Prim.Native.Nat.{ℕ, zero, suc, _<_}
 use native.Mathlib.Omega.{arith}
@@ -9,25 +10,27 @@ use lib.Seq.{getD-take}
 use borrow.Author.Tests.{le-ltb}
 use Rattle.gid.specs.Refusals.{maxSteps}
 use Rattle.gid.specs.Histories.{History}
-use Rattle.gid.specs.Statuses.{status, statusOpen, statusUnknown}
+use Rattle.gid.specs.Statuses.{isTerminal, status, statusOpen, statusUnknown}
 use Rattle.gid.specs.Successors.{noSuccessor, Chain, ends, follows, Having, SuccessorRule}
 use Rattle.tables.specs.declared.Graph.{Graph}
+use Rattle.tables.specs.Marks.{hasTerminal}
 use Rattle.tables.specs.Tables.{Tables}
 use Rattle.tables.specs.Fitting.{sources, targets}
 use Rattle.reader.specs.Opening.{readerStates}
 use Rattle.reader.specs.Standing.{Standing}
 use Rattle.reader.specs.Reading.{recordLimit}
+use Rattle.tables.proofs.Bits.{marks-bits}
 use Rattle.tables.proofs.Sizes.{long-enough}
 use Rattle.picture.specs.Picture.{statesText, stepsText, drawing, picture}
 use Rattle.picture.specs.Drawer.{drawnSteps}
 use Rattle.picture.specs.Progress.{Shows}
 use Rattle.picture.proofs.Drawing.{read-same}
 
--- statuses and steps that agree are drawn the same
-states-same : (n : ℕ) (f g : ℕ → ℕ) → ((s : ℕ) → s < n → f s ≡ g s) → statesText n f ≡ statesText n g
+-- statuses, marks and steps that agree are drawn the same
+states-same : (n : ℕ) (f g : ℕ → ℕ) (a b : ℕ → Bool) → ((s : ℕ) → s < n → f s ≡ g s) → ((s : ℕ) → s < n → a s ≡ b s) → statesText n f a ≡ statesText n g b
 unfolding statesText
-states-same zero f g e = refl
-states-same (suc n) f g e = rw (states-same n f g (λ s h. e s (omega arith)), e n (omega arith)) refl
+states-same zero f g a b e q = refl
+states-same (suc n) f g a b e q = rw (states-same n f g a b (λ s h. e s (omega arith)) (λ s h. q s (omega arith)), e n (omega arith), q n (omega arith)) refl
 
 steps-same : (m : ℕ) (from to from′ to′ successor : ℕ → ℕ) → ((p : ℕ) → p < m → from p ≡ from′ p) → ((p : ℕ) → p < m → to p ≡ to′ p) → stepsText m from to successor ≡ stepsText m from′ to′ successor
 unfolding stepsText
@@ -69,6 +72,9 @@ module _ {h : History} {g : Graph} {t : Tables} (s : Standing recordLimit h g t)
   statuses : (x : ℕ) → x < readerStates → getD (t .status) x 0 ≡ status h x
   statuses x z = s .fits .status x (omega (arith, s .states))
 
+  terminals : (x : ℕ) → x < readerStates → hasTerminal (getD (t .marks) x 0) ≡ isTerminal h x
+  terminals x z = ap hasTerminal (s .fits .marks x (omega (arith, s .states))) ∙ marks-bits h x .1
+
   froms : (p : ℕ) → p < g .steps → getD (t .from) p 0 ≡ getD (sources h) p 0
   froms p z = sym (getD-take (g .steps) (t .from) p 0 z) ∙ ap (λ (l : List ℕ). getD l p 0) (s .fits .from)
 
@@ -82,7 +88,7 @@ module _ {h : History} {g : Graph} {t : Tables} (s : Standing recordLimit h g t)
       rw (le-ltb maxSteps (g .steps) (omega (arith, s .room)), le-ltb (length (t .from)) (g .steps) (omega (arith, s .room, l .from)), le-ltb (length (t .to)) (g .steps) (omega (arith, s .room, l .to)))
 
   -- The picture of the tables is the picture of the history.
-  pub picture-says : Shows h (picture (drawnSteps (g .steps) (length (t .from)) (length (t .to))) (t .status) (t .from) (t .to) (t .successor))
+  pub picture-says : Shows h (picture (drawnSteps (g .steps) (length (t .from)) (length (t .to))) (t .status) (t .marks) (t .from) (t .to) (t .successor))
   unfolding drawing
   picture-says =
       record {
@@ -92,5 +98,5 @@ module _ {h : History} {g : Graph} {t : Tables} (s : Standing recordLimit h g t)
             (rule-same readerStates (g .steps) statuses froms tos (λ x z. read-same (t .successor) x 0 noSuccessor (omega (arith, long-enough readerStates recordLimit t (s .long) .1 .successor)))
             (subst (λ (n : ℕ). SuccessorRule n (g .steps) (λ x. getD (t .status) x 0) (λ p. getD (t .from) p 0) (λ p. getD (t .to) p 0) (λ x. getD (t .successor) x 0)) (s .states) (s .fits .successor)));
         bytes =
-            rw (all-drawn, states-same readerStates (λ x. getD (t .status) x 0) (status h) statuses, steps-same (g .steps) (λ p. getD (t .from) p 0) (λ p. getD (t .to) p 0) (λ p. getD (sources h) p 0) (λ p. getD (targets h) p 0) picks froms tos, s .fits .steps) refl;
+            rw (all-drawn, states-same readerStates (λ x. getD (t .status) x 0) (status h) (λ x. hasTerminal (getD (t .marks) x 0)) (isTerminal h) statuses terminals, steps-same (g .steps) (λ p. getD (t .from) p 0) (λ p. getD (t .to) p 0) (λ p. getD (sources h) p 0) (λ p. getD (targets h) p 0) picks froms tos, s .fits .steps) refl;
       }

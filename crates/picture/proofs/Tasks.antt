@@ -57,7 +57,7 @@ drawn-within steps from to = by (ltb maxSteps steps) (ltb from steps) (ltb to st
 -- The lines of a piece have been read,
 draws-piece :
     (d : Drawer) (piece output : List ℕ) {t t′ : Tables} {r : Reader} {left : List ℕ} {o : LineAnswer} {d′ : Drawer} {output′ : List ℕ} → Advances UntilEnd (d .reader .splitter) piece (d .reader .engine .graph) t (r .splitter) left (r .engine .graph) t′ o →
-    0 < length piece → AfterPiece r (length piece) (t′ .status) (t′ .from) (t′ .to) (t′ .successor) output d′ output′ → Draws d piece output t d′ output′ t′
+    0 < length piece → AfterPiece r (length piece) (t′ .status) (t′ .marks) (t′ .from) (t′ .to) (t′ .successor) output d′ output′ → Draws d piece output t d′ output′ t′
 draws-piece d piece output a h (continues i s q z) = rw q (goes-on (a .follows) (only-ended (a .stops)) i s refl refl z)
 draws-piece d piece output a h (stops i s (closes q w z)) = rw q (stopped (a .follows) s refl w z)
 draws-piece d piece output a h (ends e c) = absurd (omega arith)
@@ -66,7 +66,7 @@ draws-piece d piece output a h (ends e c) = absurd (omega arith)
 pub draws-by :
     (d : Drawer) (piece output : List ℕ) {part newline : List ℕ} {t t′ : Tables} {r : Reader} {left : List ℕ} {o : LineAnswer} {d′ : Drawer} {output′ : List ℕ} → part ≡ pieceOr piece newline → newline ≡ lastNewline (d .reader .splitter) →
     Advances UntilEnd (d .reader .splitter) part (d .reader .engine .graph) t (r .splitter) left (r .engine .graph) t′ o →
-    AfterPiece r (length piece) (t′ .status) (t′ .from) (t′ .to) (t′ .successor) output d′ output′ → Draws d piece output t d′ output′ t′
+    AfterPiece r (length piece) (t′ .status) (t′ .marks) (t′ .from) (t′ .to) (t′ .successor) output d′ output′ → Draws d piece output t d′ output′ t′
 draws-by d (b ∷ piece) output {t = t} {t′ = t′} {r = r} {left = left} {o = o} q n a f =
     draws-piece d (b ∷ piece) output (subst (λ (x : List ℕ). Advances UntilEnd (d .reader .splitter) x (d .reader .engine .graph) t (r .splitter) left (r .engine .graph) t′ o) q a) (omega arith) f
 draws-by d [] output q n a (continues i s z w) = absurd (omega arith)

@@ -8,6 +8,7 @@ use lib.ListN.{getD}
 use Rattle.gid.specs.Refusals.{maxStates}
 use Rattle.gid.specs.Statuses.{statusOpen, statusUnknown, statusLive, statusDead}
 use Rattle.gid.specs.Successors.{noSuccessor}
+use Rattle.tables.specs.Marks.{hasTerminal}
 use Rattle.record.specs.Text.{decimal}
 
 -- `digraph verdicts {`, `  rankdir=LR;` and `  node [style=filled];`, a line each.
@@ -29,22 +30,29 @@ labelled = 32 ∷ 91 ∷ 108 ∷ 97 ∷ 98 ∷ 101 ∷ 108 ∷ 61 ∷ 34 ∷ []
 abbrev pub arrow : List ℕ
 arrow = 32 ∷ 45 ∷ 62 ∷ 32 ∷ []
 
--- What stands behind the number in a state's label, up to the line's end: the verdict's word and its colour.
--- ` open", fillcolor="#ffffff"];`
+-- What stands behind the number in a state's label: the verdict's word and its colour.
+-- ` open", fillcolor="#ffffff"`
 abbrev pub openLook : List ℕ
-openLook = 32 ∷ 111 ∷ 112 ∷ 101 ∷ 110 ∷ 34 ∷ 44 ∷ 32 ∷ 102 ∷ 105 ∷ 108 ∷ 108 ∷ 99 ∷ 111 ∷ 108 ∷ 111 ∷ 114 ∷ 61 ∷ 34 ∷ 35 ∷ 102 ∷ 102 ∷ 102 ∷ 102 ∷ 102 ∷ 102 ∷ 34 ∷ 93 ∷ 59 ∷ 10 ∷ []
+openLook = 32 ∷ 111 ∷ 112 ∷ 101 ∷ 110 ∷ 34 ∷ 44 ∷ 32 ∷ 102 ∷ 105 ∷ 108 ∷ 108 ∷ 99 ∷ 111 ∷ 108 ∷ 111 ∷ 114 ∷ 61 ∷ 34 ∷ 35 ∷ 102 ∷ 102 ∷ 102 ∷ 102 ∷ 102 ∷ 102 ∷ 34 ∷ []
 
--- ` unknown", fillcolor="#ffe08a"];`
+-- ` unknown", fillcolor="#ffe08a"`
 abbrev pub unknownLook : List ℕ
-unknownLook = 32 ∷ 117 ∷ 110 ∷ 107 ∷ 110 ∷ 111 ∷ 119 ∷ 110 ∷ 34 ∷ 44 ∷ 32 ∷ 102 ∷ 105 ∷ 108 ∷ 108 ∷ 99 ∷ 111 ∷ 108 ∷ 111 ∷ 114 ∷ 61 ∷ 34 ∷ 35 ∷ 102 ∷ 102 ∷ 101 ∷ 48 ∷ 56 ∷ 97 ∷ 34 ∷ 93 ∷ 59 ∷ 10 ∷ []
+unknownLook = 32 ∷ 117 ∷ 110 ∷ 107 ∷ 110 ∷ 111 ∷ 119 ∷ 110 ∷ 34 ∷ 44 ∷ 32 ∷ 102 ∷ 105 ∷ 108 ∷ 108 ∷ 99 ∷ 111 ∷ 108 ∷ 111 ∷ 114 ∷ 61 ∷ 34 ∷ 35 ∷ 102 ∷ 102 ∷ 101 ∷ 48 ∷ 56 ∷ 97 ∷ 34 ∷ []
 
--- ` live", fillcolor="#a8dba0"];`
+-- ` live", fillcolor="#a8dba0"`
 abbrev pub liveLook : List ℕ
-liveLook = 32 ∷ 108 ∷ 105 ∷ 118 ∷ 101 ∷ 34 ∷ 44 ∷ 32 ∷ 102 ∷ 105 ∷ 108 ∷ 108 ∷ 99 ∷ 111 ∷ 108 ∷ 111 ∷ 114 ∷ 61 ∷ 34 ∷ 35 ∷ 97 ∷ 56 ∷ 100 ∷ 98 ∷ 97 ∷ 48 ∷ 34 ∷ 93 ∷ 59 ∷ 10 ∷ []
+liveLook = 32 ∷ 108 ∷ 105 ∷ 118 ∷ 101 ∷ 34 ∷ 44 ∷ 32 ∷ 102 ∷ 105 ∷ 108 ∷ 108 ∷ 99 ∷ 111 ∷ 108 ∷ 111 ∷ 114 ∷ 61 ∷ 34 ∷ 35 ∷ 97 ∷ 56 ∷ 100 ∷ 98 ∷ 97 ∷ 48 ∷ 34 ∷ []
 
--- ` dead", fillcolor="#f0a8a0"];`
+-- ` dead", fillcolor="#f0a8a0"`
 abbrev pub deadLook : List ℕ
-deadLook = 32 ∷ 100 ∷ 101 ∷ 97 ∷ 100 ∷ 34 ∷ 44 ∷ 32 ∷ 102 ∷ 105 ∷ 108 ∷ 108 ∷ 99 ∷ 111 ∷ 108 ∷ 111 ∷ 114 ∷ 61 ∷ 34 ∷ 35 ∷ 102 ∷ 48 ∷ 97 ∷ 56 ∷ 97 ∷ 48 ∷ 34 ∷ 93 ∷ 59 ∷ 10 ∷ []
+deadLook = 32 ∷ 100 ∷ 101 ∷ 97 ∷ 100 ∷ 34 ∷ 44 ∷ 32 ∷ 102 ∷ 105 ∷ 108 ∷ 108 ∷ 99 ∷ 111 ∷ 108 ∷ 111 ∷ 114 ∷ 61 ∷ 34 ∷ 35 ∷ 102 ∷ 48 ∷ 97 ∷ 56 ∷ 97 ∷ 48 ∷ 34 ∷ []
+
+-- The end of a state's line, with a double border and without: `, peripheries=2];`, `];`.
+abbrev pub doubleEnd : List ℕ
+doubleEnd = 44 ∷ 32 ∷ 112 ∷ 101 ∷ 114 ∷ 105 ∷ 112 ∷ 104 ∷ 101 ∷ 114 ∷ 105 ∷ 101 ∷ 115 ∷ 61 ∷ 50 ∷ 93 ∷ 59 ∷ 10 ∷ []
+
+abbrev pub singleEnd : List ℕ
+singleEnd = 93 ∷ 59 ∷ 10 ∷ []
 
 -- The end of a step's line: ` [style=bold];`, `;`.
 abbrev pub boldEnd : List ℕ
@@ -53,24 +61,24 @@ boldEnd = 32 ∷ 91 ∷ 115 ∷ 116 ∷ 121 ∷ 108 ∷ 101 ∷ 61 ∷ 98 ∷ 11
 abbrev pub plainEnd : List ℕ
 plainEnd = 59 ∷ 10 ∷ []
 
--- A line with two numbers.
+-- Two numbers on a line, with what stands between and behind them.
 unfoldable pub line : ℕ → List ℕ → ℕ → List ℕ → List ℕ
 line a middle b ending = indent ++ decimal a ++ middle ++ decimal b ++ ending
 
--- A state's line: `  3 [label="3 open", fillcolor="#ffffff"];`.
-abbrev pub node : ℕ → List ℕ → List ℕ
-node s look = line s labelled s look
+-- A state's line: `  3 [label="3 open", fillcolor="#ffffff"];`. A terminal state has a double border.
+abbrev pub node : ℕ → List ℕ → Bool → List ℕ
+node s look terminal = line s labelled s look ++ cond terminal doubleEnd singleEnd
 
 -- The line of a state with status k. An unseen state has none, nor has one whose byte is no status.
-abbrev pub stateText : ℕ → ℕ → List ℕ
-stateText k s =
-    cond (eqb k statusOpen) (node s openLook)
-    (cond (eqb k statusUnknown) (node s unknownLook) (cond (eqb k statusLive) (node s liveLook) (cond (eqb k statusDead) (node s deadLook) [])))
+abbrev pub stateText : ℕ → Bool → ℕ → List ℕ
+stateText k terminal s =
+    cond (eqb k statusOpen) (node s openLook terminal)
+    (cond (eqb k statusUnknown) (node s unknownLook terminal) (cond (eqb k statusLive) (node s liveLook terminal) (cond (eqb k statusDead) (node s deadLook terminal) [])))
 
 -- The first n states, by rising state.
-unfoldable pub statesText : ℕ → (ℕ → ℕ) → List ℕ
-statesText zero status = []
-statesText (suc s) status = statesText s status ++ stateText (status s) s
+unfoldable pub statesText : ℕ → (ℕ → ℕ) → (ℕ → Bool) → List ℕ
+statesText zero status terminal = []
+statesText (suc s) status terminal = statesText s status terminal ++ stateText (status s) (terminal s) s
 
 -- A step's line: `  0 -> 1 [style=bold];` or `  1 -> 0;`.
 abbrev pub stepText : ℕ → ℕ → Bool → List ℕ
@@ -82,13 +90,14 @@ stepsText zero from to successor = []
 stepsText (suc p) from to successor = stepsText p from to successor ++ stepText (from p) (to p) (eqb (successor (from p)) p)
 
 -- The picture of 2,048 states and m steps.
-unfoldable pub drawing : ℕ → (status from to successor : ℕ → ℕ) → List ℕ
-drawing m status from to successor = opening ++ statesText maxStates status ++ stepsText m from to successor ++ closing
+unfoldable pub drawing : ℕ → (status : ℕ → ℕ) → (terminal : ℕ → Bool) → (from to successor : ℕ → ℕ) → List ℕ
+drawing m status terminal from to successor = opening ++ statesText maxStates status terminal ++ stepsText m from to successor ++ closing
 
--- Read from tables, with any contents. A state past the end of its table is unseen, and has no successor.
-abbrev pub picture : ℕ → (status from to successor : List ℕ) → List ℕ
-picture m status from to successor = drawing m (λ s. getD status s 0) (λ p. getD from p 0) (λ p. getD to p 0) (λ s. getD successor s noSuccessor)
+-- Read from tables, with any contents. A state past the end of its table is unseen, is not terminal and has no successor.
+abbrev pub picture : ℕ → (status marks from to successor : List ℕ) → List ℕ
+picture m status marks from to successor =
+    drawing m (λ s. getD status s 0) (λ s. hasTerminal (getD marks s 0)) (λ p. getD from p 0) (λ p. getD to p 0) (λ s. getD successor s noSuccessor)
 
--- The room that a picture may take: 64 bytes for each of 2,048 states and 32 for each of 8,192 steps.
+-- The room that a picture may take: 80 bytes for each of 2,048 states and 32 for each of 8,192 steps.
 abbrev pub pictureRoom : ℕ
-pictureRoom = 393216
+pictureRoom = 425984

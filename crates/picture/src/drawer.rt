@@ -126,7 +126,16 @@ pub fn draw(
         out_next,
     );
     let after = turn.reader;
-    finish(after, piece.len(), output, status, from, to, successor)
+    finish(
+        after,
+        piece.len(),
+        output,
+        status,
+        marks,
+        from,
+        to,
+        successor,
+    )
 }
 
 // What is to be done after a piece of `given` bytes.
@@ -135,16 +144,17 @@ fn finish(
     given: usize,
     output: &mut [u8],
     status: &[u8],
+    marks: &[u8],
     from: &[u16],
     to: &[u16],
     successor: &[u16],
 ) -> Drawer
     requires { ⌜ pictureRoom ≤ length (now output) ⌝ }
-    ensures { λ r. ⌜ AfterPiece reader given (now (status .entry)) (now (from .entry)) (now (to .entry)) (now (successor .entry)) (now (output .entry)) r (now (output .exit)) ⌝ }
+    ensures { λ r. ⌜ AfterPiece reader given (now (status .entry)) (now (marks .entry)) (now (from .entry)) (now (to .entry)) (now (successor .entry)) (now (output .entry)) r (now (output .exit)) ⌝ }
 {
     if 0 < given {
         if reader.is_over() {
-            return close(reader, output, status, from, to, successor);
+            return close(reader, output, status, marks, from, to, successor);
         }
         return Drawer {
             reader,
@@ -152,24 +162,25 @@ fn finish(
             task: Task::Read,
         };
     }
-    close(reader, output, status, from, to, successor)
+    close(reader, output, status, marks, from, to, successor)
 }
 
 fn close(
     reader: Reader,
     output: &mut [u8],
     status: &[u8],
+    marks: &[u8],
     from: &[u16],
     to: &[u16],
     successor: &[u16],
 ) -> Drawer
     requires { ⌜ pictureRoom ≤ length (now output) ⌝ }
-    ensures { λ r. ⌜ PutsPicture reader (now (status .entry)) (now (from .entry)) (now (to .entry)) (now (successor .entry)) (now (output .entry)) r (now (output .exit)) ⌝ }
+    ensures { λ r. ⌜ PutsPicture reader (now (status .entry)) (now (marks .entry)) (now (from .entry)) (now (to .entry)) (now (successor .entry)) (now (output .entry)) r (now (output .exit)) ⌝ }
 {
     let engine = reader.engine;
     let graph = engine.graph;
     let m = drawn_steps(graph.steps, from.len(), to.len());
-    let end = put_picture(output, 0, m, status, from, to, successor);
+    let end = put_picture(output, 0, m, status, marks, from, to, successor);
     Drawer {
         reader,
         end,

@@ -4,6 +4,7 @@ ghost use Prim.Native.Nat.{ℕ, _≤_, _<_, _+_, _*_};
 ghost use lib.ListN.{length, getD};
 ghost use Rattle.gid.specs.Refusals.{maxStates, maxSteps};
 ghost use Rattle.gid.specs.Successors.{noSuccessor};
+ghost use Rattle.tables.specs.Marks.{hasTerminal};
 ghost use Rattle.record.specs.Text.{WroteAt};
 ghost use Rattle.picture.specs.Picture.{line, node, stateText, statesText, stepText, stepsText, picture, pictureRoom};
 use record::put_bytes_at;
@@ -14,10 +15,11 @@ use tables::MAX_STATES;
 use tables::NO_SUCCESSOR;
 use tables::OPEN;
 use tables::UNKNOWN;
+use tables::has_terminal;
 use tables::status_of;
 
 // The room that is to be left in the buffer for a picture.
-pub const PICTURE_ROOM: usize = 393216;
+pub const PICTURE_ROOM: usize = 425984;
 
 // The whole picture, of tables with any contents.
 pub fn put_picture(
@@ -25,57 +27,68 @@ pub fn put_picture(
     at: usize,
     m: usize,
     status: &[u8],
+    marks: &[u8],
     from: &[u16],
     to: &[u16],
     successor: &[u16],
 ) -> usize
     requires { ⌜ (m ≤ maxSteps) × (m ≤ length (now from)) × (m ≤ length (now to)) × (at + pictureRoom ≤ length (now buf)) ⌝ }
-    ensures { λ r. ⌜ WroteAt at (picture m (now (status .entry)) (now (from .entry)) (now (to .entry)) (now (successor .entry))) (now (buf .entry)) (now (buf .exit)) r × (r ≤ at + pictureRoom) ⌝ }
+    ensures { λ r. ⌜ WroteAt at (picture m (now (status .entry)) (now (marks .entry)) (now (from .entry)) (now (to .entry)) (now (successor .entry))) (now (buf .entry)) (now (buf .exit)) r × (r ≤ at + pictureRoom) ⌝ }
 {
     let states = put_bytes_at(
         buf,
         at,
         b"digraph verdicts {\n  rankdir=LR;\n  node [style=filled];\n",
     );
-    let steps = put_states(buf, states, status);
+    let steps = put_states(buf, states, status, marks);
     let end = put_steps(buf, steps, m, from, to, successor);
     put_bytes_at(buf, end, b"}\n")
 }
 
 // The lines of the states, by rising state.
-fn put_states(buf: &mut [u8], at: usize, status: &[u8]) -> usize
-    requires { ⌜ at + 54 * maxStates ≤ length (now buf) ⌝ }
-    ensures { λ r. ⌜ WroteAt at (statesText maxStates (λ s. getD (now (status .entry)) s 0)) (now (buf .entry)) (now (buf .exit)) r × (r ≤ at + 54 * maxStates) ⌝ }
+fn put_states(buf: &mut [u8], at: usize, status: &[u8], marks: &[u8]) -> usize
+    requires { ⌜ at + 69 * maxStates ≤ length (now buf) ⌝ }
+    ensures { λ r. ⌜ WroteAt at (statesText maxStates (λ s. getD (now (status .entry)) s 0) (λ s. hasTerminal (getD (now (marks .entry)) s 0))) (now (buf .entry)) (now (buf .exit)) r × (r ≤ at + 69 * maxStates) ⌝ }
 {
     let mut end = at;
     let mut s = 0;
     while s < MAX_STATES {
-        end = put_state(buf, end, s, status_of(status, s));
+        end = put_state(buf, end, s, status_of(status, s), is_terminal(marks, s));
         s += 1;
     }
     end
 }
 
 // A state's line, where it has one.
-fn put_state(buf: &mut [u8], at: usize, state: usize, status: u8) -> usize
-    requires { ⌜ (state < 100000) × (at + 54 ≤ length (now buf)) ⌝ }
-    ensures { λ r. ⌜ WroteAt at (stateText status state) (now (buf .entry)) (now (buf .exit)) r × (r ≤ at + 54) ⌝ }
+fn put_state(buf: &mut [u8], at: usize, state: usize, status: u8, terminal: bool) -> usize
+    requires { ⌜ (state < 100000) × (at + 69 ≤ length (now buf)) ⌝ }
+    ensures { λ r. ⌜ WroteAt at (stateText status terminal state) (now (buf .entry)) (now (buf .exit)) r × (r ≤ at + 69) ⌝ }
 {
     match status {
-        OPEN => put_node(buf, at, state, b" open\", fillcolor=\"#ffffff\"];\n"),
-        UNKNOWN => put_node(buf, at, state, b" unknown\", fillcolor=\"#ffe08a\"];\n"),
-        LIVE => put_node(buf, at, state, b" live\", fillcolor=\"#a8dba0\"];\n"),
-        DEAD => put_node(buf, at, state, b" dead\", fillcolor=\"#f0a8a0\"];\n"),
+        OPEN => put_node(buf, at, state, b" open\", fillcolor=\"#ffffff\"", terminal),
+        UNKNOWN => put_node(
+            buf,
+            at,
+            state,
+            b" unknown\", fillcolor=\"#ffe08a\"",
+            terminal,
+        ),
+        LIVE => put_node(buf, at, state, b" live\", fillcolor=\"#a8dba0\"", terminal),
+        DEAD => put_node(buf, at, state, b" dead\", fillcolor=\"#f0a8a0\"", terminal),
         _ => at,
     }
 }
 
 // A state's line, with what stands behind the number in its label.
-fn put_node(buf: &mut [u8], at: usize, state: usize, look: &[u8]) -> usize
-    requires { ⌜ (state < 100000) × (at + (length (now look) + 21) ≤ length (now buf)) ⌝ }
-    ensures { λ r. ⌜ WroteAt at (node state (now (look .entry))) (now (buf .entry)) (now (buf .exit)) r × (r ≤ at + (length (now (look .entry)) + 21)) ⌝ }
+fn put_node(buf: &mut [u8], at: usize, state: usize, look: &[u8], terminal: bool) -> usize
+    requires { ⌜ (state < 100000) × (at + (length (now look) + 39) ≤ length (now buf)) ⌝ }
+    ensures { λ r. ⌜ WroteAt at (node state (now (look .entry)) terminal) (now (buf .entry)) (now (buf .exit)) r × (r ≤ at + (length (now (look .entry)) + 39)) ⌝ }
 {
-    put_line(buf, at, state, b" [label=\"", state, look)
+    let border = put_line(buf, at, state, b" [label=\"", state, look);
+    if terminal {
+        return put_bytes_at(buf, border, b", peripheries=2];\n");
+    }
+    put_bytes_at(buf, border, b"];\n")
 }
 
 // The lines of the first m steps, in list order.
@@ -112,7 +125,7 @@ fn put_step(buf: &mut [u8], at: usize, from: usize, to: usize, bold: bool) -> us
     put_line(buf, at, from, b" -> ", to, b";\n")
 }
 
-// A line with two numbers.
+// Two numbers on a line, with what stands between and behind them.
 fn put_line(buf: &mut [u8], at: usize, a: usize, middle: &[u8], b: usize, ending: &[u8]) -> usize
     requires { ⌜ (a < 100000) × (b < 100000) × (at + (length (now middle) + length (now ending) + 12) ≤ length (now buf)) ⌝ }
     ensures { λ r. ⌜ WroteAt at (line a (now (middle .entry)) b (now (ending .entry))) (now (buf .entry)) (now (buf .exit)) r × (r ≤ at + (length (now (middle .entry)) + length (now (ending .entry)) + 12)) ⌝ }
@@ -132,4 +145,14 @@ fn successor_of(successor: &[u16], s: usize) -> u16
         return successor[s];
     }
     NO_SUCCESSOR
+}
+
+// Whether a state is marked terminal. None is past the table's end.
+fn is_terminal(marks: &[u8], s: usize) -> bool
+    ensures { λ r. ⌜ r ≡ hasTerminal (getD (now (marks .entry)) s 0) ⌝ }
+{
+    if s < marks.len() {
+        return has_terminal(marks[s]);
+    }
+    false
 }

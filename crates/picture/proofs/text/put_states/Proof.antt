@@ -1,9 +1,10 @@
--- `put_states` meets its contract. The invariant: the lines of the states passed stand in the buffer, and take at most 54 bytes each.
+-- `put_states` meets its contract. The invariant: the lines of the states passed stand in the buffer, and take at most 69 bytes each.
 -- Assumes nothing.
 use Prim.Native.Nat.{_+_, _*_, _-_, _≤_}
 use native.Mathlib.Omega.{arith}
 use mathlib.Core.Path.{_≡_, refl, _∙_}
 use lib.ListN.{length, getD}
+use Rattle.tables.specs.Marks.{hasTerminal}
 use Rattle.record.specs.Text.{WroteAt}
 use Rattle.picture.specs.Picture.{statesText}
 use Rattle.picture.proofs.Drawing.{no-states, states-on}
@@ -11,24 +12,27 @@ use Rattle.picture.proofs.text.put_states.Statement.{statement}
 use Rattle.picture.proofs.text.put_states.Tie as tie
 
 abbrev Inv-loop : tie.InvT-loop
-Inv-loop buf₀ at status end₀ s₀ buf end s =
-    (s ≤ 2048) × (length buf ≡ length buf₀) × WroteAt at (statesText s (λ i. getD status i 0)) buf₀ buf end × (end ≤ at + 54 * s)
+Inv-loop buf₀ at status marks end₀ s₀ buf end s =
+    (s ≤ 2048) × (length buf ≡ length buf₀) × WroteAt at (statesText s (λ i. getD status i 0) (λ i. hasTerminal (getD marks i 0))) buf₀ buf end × (end ≤ at + 69 * s)
 
 abbrev μ-loop : tie.MeasureT-loop
-μ-loop buf₀ at status end₀ s₀ buf end s = 2048 - s
+μ-loop buf₀ at status marks end₀ s₀ buf end s = 2048 - s
 
 loop-holds : tie.Need-loop-holds Inv-loop μ-loop
 loop-holds c =
-    let a = c .before .before .args in
-    (omega arith, refl, no-states (λ i. getD (a .status .now) i 0) (a .at) (a .buf .now), omega arith)
+    let a = c .before .before .before .args in
+    (omega arith, refl, no-states (λ i. getD (a .status .now) i 0) (λ i. hasTerminal (getD (a .marks .now) i 0)) (a .at) (a .buf .now), omega arith)
 
 status-of-requires : tie.Need-status-of-requires Inv-loop μ-loop
 status-of-requires c κs = tt
 
+is-terminal-requires : tie.Need-is-terminal-requires Inv-loop μ-loop
+is-terminal-requires c κs = tt
+
 put-state-requires : tie.Need-put-state-requires Inv-loop μ-loop
 put-state-requires c κs =
-    let l = c .before .before .before .loop in
-    (omega arith, omega (arith, c .before .before .before .before .before .before .pre, l .inv .1, l .inv .3))
+    let l = c .before .before .before .before .loop in
+    (omega arith, omega (arith, c .before .before .before .before .before .before .before .before .pre, l .inv .1, l .inv .3))
 
 add-s : tie.Need-add-s Inv-loop μ-loop
 add-s c = omega arith
@@ -38,10 +42,10 @@ loop-less c = omega arith
 
 loop-again : tie.Need-loop-again Inv-loop μ-loop
 loop-again c =
-    let a = c .before .before .before .before .before .before .before .before .before .args in
-    let l = c .before .before .before .before .before .before .loop in
+    let a = c .before .before .before .before .before .before .before .before .before .before .before .args in
+    let l = c .before .before .before .before .before .before .before .loop in
     let w = c .before .before .put-state in
-    (omega arith, w .kept .0 ∙ l .inv .1, states-on (λ i. getD (a .status .now) i 0) (l .s) (l .inv .2) (rw (← c .before .before .before .status-of .ensures) (w .ensures .0)) (omega (arith, c .before .before .before .before .before .before .before .before .before .pre, l .inv .3, w .ensures .1)), omega (arith, l .inv .3, w .ensures .1))
+    (omega arith, w .kept .0 ∙ l .inv .1, states-on (λ i. getD (a .status .now) i 0) (λ i. hasTerminal (getD (a .marks .now) i 0)) (l .s) (l .inv .2) (rw (← c .before .before .before .before .status-of .ensures, ← c .before .before .before .is-terminal .ensures) (w .ensures .0)) (omega (arith, c .before .before .before .before .before .before .before .before .before .before .before .pre, l .inv .3, w .ensures .1)), omega (arith, l .inv .3, w .ensures .1))
 
 same-length : tie.Need-same-length Inv-loop μ-loop
 same-length c = c .before .loop .inv .1
@@ -60,6 +64,7 @@ put-states-spec =
     μ-loop
     loop-holds
     status-of-requires
+    is-terminal-requires
     put-state-requires
     add-s
     loop-less
