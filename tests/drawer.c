@@ -17,10 +17,11 @@ static void choose(const Reading *r, uint8_t *bold)
     }
 }
 
-int main(void)
+int main(int argc, char **argv)
 {
     static Reading reading;
     static uint8_t bold[MOST_STEPS];
+    if (standard_usage("draw", argc, argv)) return 0;
     standard_read("draw", &reading, NULL);
     choose(&reading, bold);
     drawing_write(&reading, bold, stdout);

@@ -197,6 +197,7 @@ static void group_cuts(void) { cut_lines(hold_record); }
 static void group_stopped(void) { stopped_inputs(DRAW, hold_picture); }
 static void group_failing_inputs(void) { failing_inputs(DRAW, hold_picture); }
 static void group_failing_outputs(void) { failing_outputs(DRAW); }
+static void group_arguments(void) { arguments_given(DRAW); }
 
 // ---- all groups
 
@@ -205,6 +206,7 @@ static const Group groups[] = {
     {"inputs that nobody closes, where reading stops", group_stopped},
     {"inputs that cannot be read to their end", group_failing_inputs},
     {"outputs that cannot be written", group_failing_outputs},
+    {"arguments", group_arguments},
     {"every short record", group_short},
     {"explorers' records, up to 12 states", group_explored},
     {"explorers' records, up to 2,048 states", group_explored_large},

@@ -2,6 +2,7 @@
 #include "ending.h"
 #include "groups.h"
 #include "making.h"
+#include <stdlib.h>
 #include <string.h>
 
 const char *const cannot_read[] = {"listing: cannot read standard input\n", "draw: cannot read standard input\n"};
@@ -63,4 +64,67 @@ void failing_outputs(Program p)
         for (size_t s = 0; s < (i / 2 ? 2000 : 2); s++) add("E %zu %zu\n\n\n\n\n\n\n\n\n", s, s + 1);
         run(p, FROM_FILE, i % 2 ? TO_FULL_DEVICE : TO_NOTHING, cannot_write[p]);
     }
+}
+
+// ---- arguments
+
+// What begins each program's usage. The rest of it is the program's own, and the same on both streams.
+static const char *const usage_line[] = {"usage: radvoinis-listing <RECORD\n", "usage: radvoinis-draw <RECORD\n"};
+static char *usage;
+
+static Output run_with(Program p, const char *const *arguments, Source from, Target to)
+{
+    start_record();
+    add("E 0 1\nT 1 -\nC 0 -\n");
+    Output output = program_run_with(p, arguments, from, record, from == FROM_HELD_PIPE ? 0 : record_length, PIECE_MOST, to);
+    check(CHECK_ENDED, output.ended);
+    check(CHECK_UNREAD, output.taken == 0);
+    return output;
+}
+
+static void hold_help(Program p, Source from)
+{
+    static const char *const help[] = {"--help", NULL};
+    Output output = run_with(p, help, from, TO_MEMORY);
+    check(CHECK_USAGE, output.length == strlen(usage) && memcmp(output.bytes, usage, output.length) == 0 && *output.said == 0);
+}
+
+static void hold_other(Program p, const char *first, const char *second, const char *third)
+{
+    const char *arguments[] = {first, second, third, NULL};
+    for (int i = 0; i < 4 && !failed; i++) {
+        static const Source from[] = {FROM_FILE, FROM_HELD_PIPE, FROM_NOTHING, FROM_FOLDER};
+        Output output = run_with(p, arguments, from[i], i % 2 ? TO_MEMORY : TO_FULL_DEVICE);
+        check(CHECK_USAGE, output.length == 0 && strcmp(output.said, usage) == 0);
+    }
+}
+
+// --help with each of its bytes altered, one left out behind, one more.
+static void hold_words_like_help(Program p)
+{
+    for (size_t i = 0; i < 8 && !failed; i++) {
+        char word[] = "--help\0";
+        if (i < 6) word[i] ^= i % 2 ? 32 : 1;
+        else word[i == 6 ? 5 : 6] = i == 6 ? 0 : 'p';
+        hold_other(p, word, NULL, NULL);
+    }
+}
+
+void arguments_given(Program p)
+{
+    static const char *const others[][3] = {{""}, {"-"}, {"-h"}, {"--"}, {"x"}, {" --help"}, {"--help", ""}, {"--help", "--help"},
+                                            {"", "--help"}, {"x", "--help"}, {"x", "y"}, {"--help", "x", "y"}, {"", "", ""}};
+    static const char *const help[] = {"--help", NULL};
+    static char longest[100001];
+    memset(longest, 'x', sizeof longest - 1);
+    free(usage);
+    usage = strdup((const char *)run_with(p, help, FROM_FILE, TO_MEMORY).bytes);
+    check(CHECK_USAGE, strncmp(usage, usage_line[p], strlen(usage_line[p])) == 0 && usage[strlen(usage) - 1] == '\n');
+    for (Source from = FROM_FILE; from <= FROM_NOTHING && !failed; from++)
+        if (from != FROM_FAILING_SOCKET) hold_help(p, from);
+    for (size_t i = 0; i < sizeof others / sizeof *others && !failed; i++) hold_other(p, others[i][0], others[i][1], others[i][2]);
+    if (!failed) hold_other(p, longest, NULL, NULL);
+    if (!failed) hold_words_like_help(p);
+    for (Target to = TO_FULL_DEVICE; to <= TO_NOTHING && !failed; to++)
+        check(CHECK_SAID, strcmp(run_with(p, help, FROM_FILE, to).said, cannot_write[p]) == 0);
 }

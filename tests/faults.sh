@@ -285,6 +285,19 @@ program_fault "a failed write is an exit status" 's/    if (fflush.*/    if (ffl
 listing_fault "a failed write does not end it" 's/!ferror(stdout) && //' standard
 few=1 listing_fault "a full buffer is begun anew and not written" 's/int more = 1;/int more = 1; static char kept[131072]; setvbuf(stdout, kept, _IOFBF, sizeof kept);/; s/        more = reading_line.*/&\n        if (__fpending(stdout) > 90112) __fpurge(stdout);/; s/#include <stdlib.h>/&\n#include <stdio_ext.h>/' standard
 
+# arguments
+program_fault "an argument is passed over" "$(within standard_usage 's/argc < 2/argc < 3 \&\& (argc < 2 || strcmp(argv[1], "--help") != 0)/')"
+program_fault "an empty argument is none" "$(within standard_usage 's/argc < 2/argc < 2 || !argv[1][0]/')"
+program_fault "usage that nobody asked for on standard output" "$(within standard_usage 's/asked ? stdout : stderr/stdout/')"
+program_fault "usage that was asked for on standard error" "$(within standard_usage 's/asked ? stdout : stderr/stderr/')"
+program_fault "help is asked for by more than --help" "$(within standard_usage 's/argc == 2 && //')"
+program_fault "help is asked for by its first bytes" "$(within standard_usage 's/strcmp(argv\[1\], "--help")/strncmp(argv[1], "--help", 6)/')"
+program_fault "help is asked for by another letter" "$(within standard_usage 's/strcmp(argv/strcasecmp(argv/')"
+program_fault "usage that cannot be written is not said" "$(within standard_usage 's/    if (asked) standard_end.*//')"
+program_fault "the input is read before the usage" "$(within standard_usage 's/    int asked/    getchar();\n&/')"
+program_fault "an argument is an exit status" "$(within standard_usage 's/    return 1;/    if (!asked) exit(1);\n&/')"
+program_fault "the usage and then the record" "$(within standard_usage 's/    return 1;/    return asked;/')"
+
 # pictures
 few=1 drawing_fault "bold by the target" "$(within choose 's/first/other/g; s/second/first/g; s/other/second/g')" drawer
 drawing_fault "every step bold" 's/bold\[p++\] ? bold_end : ";"/bold_end/'

@@ -1,9 +1,10 @@
 // The naive listing as a program: what tests/faults.sh plants its faults in.
 #include "standard.h"
 
-int main(void)
+int main(int argc, char **argv)
 {
     static Reading reading;
+    if (standard_usage("listing", argc, argv)) return 0;
     standard_read("listing", &reading, stdout);
     standard_end("listing");
     return 0;

@@ -112,16 +112,18 @@ static void open_source(Source from, const uint8_t *input, size_t length, int en
 
 static int put_at(int file, int at) { return file == NONE ? close(at) == 0 : dup2(file, at) >= 0; }
 
-static pid_t start(Program p, int from, int to, unsigned most_seconds)
+static pid_t start(Program p, const char *const *arguments, int from, int to, unsigned most_seconds)
 {
     const char *named = getenv(p == LISTING ? "LISTING" : "DRAW");
     const char *path = named ? named : p == LISTING ? "target/bin/listing" : "target/bin/draw";
+    const char *words[MOST_ARGUMENTS + 2] = {path};
+    for (size_t i = 0; i < MOST_ARGUMENTS && arguments[i]; i++) words[i + 1] = arguments[i];
     int errors = emptied(&said);
     pid_t child = fork();
     if (child < 0) abort();
     if (child > 0) return child;
     alarm(most_seconds), signal(SIGPIPE, SIG_DFL);
-    if (put_at(from, STDIN_FILENO) && put_at(to, STDOUT_FILENO) && put_at(errors, STDERR_FILENO)) execl(path, path, (char *)NULL);
+    if (put_at(from, STDIN_FILENO) && put_at(to, STDOUT_FILENO) && put_at(errors, STDERR_FILENO)) execv(path, (char *const *)words);
     _exit(127);
 }
 
@@ -133,22 +135,31 @@ static int ended_well(pid_t child)
     return WIFEXITED(status) && WEXITSTATUS(status) == 0;
 }
 
-// A minute is more than any run takes.
-Output program_run_between(Program p, Source from, const uint8_t *input, size_t length, size_t piece, Target to)
+// A minute is more than any run takes. Of a file the place is shared with the program.
+Output program_run_with(Program p, const char *const *arguments, Source from, const uint8_t *input, size_t length, size_t piece, Target to)
 {
     int ends[2], held = from == FROM_HELD_PIPE, target = open_target(to);
     signal(SIGPIPE, SIG_IGN);
     call_begin();
     open_source(from, input, length, ends);
-    pid_t child = start(p, ends[0], target, held ? 5 : 60);
-    close_end(ends[0]), close_end(target);
+    pid_t child = start(p, arguments, ends[0], target, held ? 5 : 60);
+    if (from != FROM_FILE) close_end(ends[0]);
+    close_end(target);
     if (ends[1] != NONE) write_all(ends[1], input, length, piece);
     if (!held) close_end(ends[1]);
     int ended = ended_well(child);
     if (held) close_end(ends[1]);
     call_end();
+    size_t taken = from == FROM_FILE ? (size_t)lseek(ends[0], 0, SEEK_CUR) : 0;
+    if (from == FROM_FILE) close_end(ends[0]);
     take(&output), take(&said);
-    return (Output){ended, (const uint8_t *)output.bytes, output.length, said.bytes};
+    return (Output){ended, (const uint8_t *)output.bytes, output.length, said.bytes, taken};
+}
+
+Output program_run_between(Program p, Source from, const uint8_t *input, size_t length, size_t piece, Target to)
+{
+    static const char *const none[] = {NULL};
+    return program_run_with(p, none, from, input, length, piece, to);
 }
 
 Output program_run(Program p, const uint8_t *input, size_t length, size_t piece)

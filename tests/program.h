@@ -19,9 +19,14 @@ typedef struct {
     const uint8_t *bytes;    // what it wrote to memory, until the next run
     size_t length;
     const char *said;        // what it wrote to standard error
+    size_t taken;            // how many bytes it read, where they stand in a file
 } Output;
 
 Output program_run_between(Program p, Source from, const uint8_t *input, size_t length, size_t piece, Target to);
+
+// The same with arguments, NULL behind the last.
+Output program_run_with(Program p, const char *const *arguments, Source from, const uint8_t *input, size_t length, size_t piece, Target to);
+enum { MOST_ARGUMENTS = 3 };
 
 // From a file; or through a pipe in pieces of at most so many bytes, each by a read of its own.
 enum { PIECE_MOST = 4096 };

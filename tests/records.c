@@ -200,6 +200,7 @@ static void group_fills(void)
 
 static void group_stopped(void) { stopped_inputs(LISTING, hold_listing); }
 static void group_failing_inputs(void) { failing_inputs(LISTING, hold_listing); }
+static void group_arguments(void) { arguments_given(LISTING); }
 
 // A listing of which a part cannot be written ends there, though more lines would come.
 static void group_failing_outputs(void)
@@ -217,6 +218,7 @@ static const Group groups[] = {
     {"inputs that nobody closes, where reading stops", group_stopped},
     {"inputs that cannot be read to their end", group_failing_inputs},
     {"outputs that cannot be written", group_failing_outputs},
+    {"arguments", group_arguments},
     {"valid records", group_valid},
     {"records up to the step limit and past it", group_full_list},
     {"damaged records", group_damaged},

@@ -1,6 +1,16 @@
 // Standard input and output: what fails is said on standard error. A read error counts as the end of the input.
 #include "standard.h"
 #include <stdlib.h>
+#include <string.h>
+
+int standard_usage(const char *program, int argc, char **argv)
+{
+    if (argc < 2) return 0;
+    int asked = argc == 2 && strcmp(argv[1], "--help") == 0;
+    fprintf(asked ? stdout : stderr, "usage: radvoinis-%s <RECORD\n", program);
+    if (asked) standard_end(program);
+    return 1;
+}
 
 void standard_read(const char *program, Reading *r, FILE *listing)
 {

@@ -25,6 +25,15 @@ struct DrawingEnd {
 }
 
 fn main() {
+    if streams::told_usage(
+        b"draw",
+        b"usage: radvoinis-draw <RECORD\n\
+          Reads a record of updates and writes where it ends as a Graphviz graph: each\n\
+          state by its verdict, a terminal one with a double border, each accepted step.\n\
+          It takes no arguments. radvoinis-draw <RECORD | dot -Tpng makes an image.\n",
+    ) {
+        return;
+    }
     let mut status = [0u8; MAX_STATES];
     let mut marks = [0u8; MAX_STATES];
     let mut from = [0u16; RECORD_LIMIT];

@@ -26,6 +26,15 @@ struct ListingEnd {
 }
 
 fn main() {
+    if streams::told_usage(
+        b"listing",
+        b"usage: radvoinis-listing <RECORD\n\
+          Reads a record of updates and lists, line by line, the states that an update\n\
+          settles as live or dead and the numbers of refusals; at the end, how many states\n\
+          have each status. It takes no arguments.\n",
+    ) {
+        return;
+    }
     let mut status = [0u8; MAX_STATES];
     let mut marks = [0u8; MAX_STATES];
     let mut from = [0u16; RECORD_LIMIT];

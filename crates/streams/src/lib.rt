@@ -1,4 +1,4 @@
-// What a program does between two calls that list or draw: it reads a piece of its standard input, or writes to its standard output.
+// What a program does between two calls that list or draw: it reads a piece of its standard input, or writes to its standard output. Before the first it looks at its arguments.
 ghost use mathlib.Core.Path.{_≡_};
 ghost use mathlib.Core.Bool.{true};
 ghost use mathlib.Core.Logic.{_↔_};
@@ -31,6 +31,35 @@ impl Served {
             Served::Failed => false,
         }
     }
+}
+
+// Whether the program has arguments, of which it takes none. Then it tells its usage: on standard output where that is asked for, by `--help` alone, else on standard error.
+pub fn told_usage(program: &[u8], usage: &[u8]) -> bool {
+    if os::arg_count() < 2 {
+        return false;
+    }
+    if asked_for_help() {
+        write_text(program, usage, usage.len());
+    } else {
+        io::write_all(STDERR_FILENO, usage);
+    }
+    true
+}
+
+// An argument that is longer than the array counts as empty.
+fn asked_for_help() -> bool {
+    let mut word = [0u8; 6];
+    let len = os::arg(1, &mut word);
+    os::arg_count() == 2 && len == 6 && is_help(word)
+}
+
+fn is_help(word: [u8; 6]) -> bool {
+    word[0] == b'-'
+        && word[1] == b'-'
+        && word[2] == b'h'
+        && word[3] == b'e'
+        && word[4] == b'l'
+        && word[5] == b'p'
 }
 
 // Does a task. `count` is the length of the piece at hand, `end` that of the text in the output. A read that fails counts as the end of the input, and standard error says so.

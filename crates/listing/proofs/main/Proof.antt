@@ -6,6 +6,18 @@ use borrow.Author.Needs.{needs}
 use Rattle.listing.proofs.main.Statement.{statement}
 use Rattle.listing.proofs.main.Tie as tie
 
+slice-aggregate-told-usage : tie.Need-slice-aggregate-told-usage
+slice-aggregate-told-usage c = search needs
+
+slice-aggregate-told-usage-2 : tie.Need-slice-aggregate-told-usage-2
+slice-aggregate-told-usage-2 c = search needs
+
+told-usage-requires : tie.Need-told-usage-requires
+told-usage-requires c κs = search needs
+
+returns : tie.Need-returns
+returns c = search needs
+
 slice-aggregate-list-input : tie.Need-slice-aggregate-list-input
 slice-aggregate-list-input c = search needs
 
@@ -51,13 +63,17 @@ slice-aggregate-list-input-14 c = search needs
 list-input-requires : tie.Need-list-input-requires
 list-input-requires c κs = (omega arith, refl)
 
-returns : tie.Need-returns
-returns c = search needs
+returns-2 : tie.Need-returns-2
+returns-2 c = search needs
 
 pub main-spec : {M : Type 1} → statement M
 main-spec =
     tie.close
     (tie.spec
+    slice-aggregate-told-usage
+    slice-aggregate-told-usage-2
+    told-usage-requires
+    returns
     slice-aggregate-list-input
     slice-aggregate-list-input-2
     slice-aggregate-list-input-3
@@ -73,4 +89,4 @@ main-spec =
     slice-aggregate-list-input-13
     slice-aggregate-list-input-14
     list-input-requires
-    returns)
+    returns-2)
