@@ -163,7 +163,7 @@ static void write_out(size_t len)
     for (size_t done = 0; done < len;) {
         ssize_t put = write(STDOUT_FILENO, output + done, len - done);
         if (put <= 0) {
-            fprintf(stderr, "listing: cannot write standard output\n");
+            fprintf(stderr, "radvoinis-listing: cannot write standard output\n");
             exit(0);
         }
         done += (size_t)put;
@@ -197,7 +197,7 @@ int main(void)
     memcpy(output, "line verdict number\n", 20);
     size_t end = 20;
     while (!s.stopped && (got = read(STDIN_FILENO, input, sizeof input)) > 0) end = list_piece(&s, (size_t)got, end);
-    if (got < 0) fprintf(stderr, "listing: cannot read standard input\n");
+    if (got < 0) fprintf(stderr, "radvoinis-listing: cannot read standard input\n");
     end = with_room(end);
     size_t line = s.number;
     if (s.line.len > 0 || line == 1) end = put_answer(end, line, ended(&s));

@@ -21,10 +21,10 @@ int main(int argc, char **argv)
 {
     static Reading reading;
     static uint8_t bold[MOST_STEPS];
-    if (standard_usage("draw", argc, argv)) return 0;
-    standard_read("draw", &reading, NULL);
+    if (standard_usage("radvoinis-draw", argc, argv)) return 0;
+    standard_read("radvoinis-draw", &reading, NULL);
     choose(&reading, bold);
     drawing_write(&reading, bold, stdout);
-    standard_end("draw");
+    standard_end("radvoinis-draw");
     return 0;
 }

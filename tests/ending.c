@@ -5,8 +5,8 @@
 #include <stdlib.h>
 #include <string.h>
 
-const char *const cannot_read[] = {"listing: cannot read standard input\n", "draw: cannot read standard input\n"};
-const char *const cannot_write[] = {"listing: cannot write standard output\n", "draw: cannot write standard output\n"};
+const char *const cannot_read[] = {"radvoinis-listing: cannot read standard input\n", "radvoinis-draw: cannot read standard input\n"};
+const char *const cannot_write[] = {"radvoinis-listing: cannot write standard output\n", "radvoinis-draw: cannot write standard output\n"};
 
 void hold_end(Output output, const char *said)
 {

@@ -4,8 +4,8 @@
 int main(int argc, char **argv)
 {
     static Reading reading;
-    if (standard_usage("listing", argc, argv)) return 0;
-    standard_read("listing", &reading, stdout);
-    standard_end("listing");
+    if (standard_usage("radvoinis-listing", argc, argv)) return 0;
+    standard_read("radvoinis-listing", &reading, stdout);
+    standard_end("radvoinis-listing");
     return 0;
 }

@@ -7,7 +7,7 @@ int standard_usage(const char *program, int argc, char **argv)
 {
     if (argc < 2) return 0;
     int asked = argc == 2 && strcmp(argv[1], "--help") == 0;
-    fprintf(asked ? stdout : stderr, "usage: radvoinis-%s <RECORD\n", program);
+    fprintf(asked ? stdout : stderr, "usage: %s <RECORD\n", program);
     if (asked) standard_end(program);
     return 1;
 }

@@ -26,7 +26,7 @@ struct DrawingEnd {
 
 fn main() {
     if streams::told_usage(
-        b"draw",
+        b"radvoinis-draw",
         b"usage: radvoinis-draw <RECORD\n\
           Reads a record of updates and writes where it ends as a Graphviz graph: each\n\
           state by its verdict, a terminal one with a double border, each accepted step.\n\
@@ -105,7 +105,7 @@ fn draw_input(
     while turns > 0 {
         let task = drawer.task;
         let end = drawer.end;
-        let served = streams::serve(b"draw", task, end, count, input, output);
+        let served = streams::serve(b"radvoinis-draw", task, end, count, input, output);
         let Served::Piece(len) = served else {
             return DrawingEnd {
                 drawer,

@@ -27,7 +27,7 @@ struct ListingEnd {
 
 fn main() {
     if streams::told_usage(
-        b"listing",
+        b"radvoinis-listing",
         b"usage: radvoinis-listing <RECORD\n\
           Reads a record of updates and lists, line by line, the states that an update\n\
           settles as live or dead and the numbers of refusals; at the end, how many states\n\
@@ -107,7 +107,7 @@ fn list_input(
     while turns > 0 {
         let task = lister.task;
         let end = lister.end;
-        let served = streams::serve(b"listing", task, end, count, input, output);
+        let served = streams::serve(b"radvoinis-listing", task, end, count, input, output);
         let Served::Piece(len) = served else {
             return ListingEnd {
                 lister,
