@@ -28,9 +28,9 @@ unfolding stepsText
 no-steps from to successor at d = placed-none at d
 
 -- one state more
-pub states-on : (f : ℕ → ℕ) (marked : ℕ → Bool) (s : ℕ) {at : ℕ} {d e g : List ℕ} {r k : ℕ} → WroteAt at (statesText s f marked) d e r → WroteAt r (stateText (f s) (marked s) s) e g k → k ≤ length d → WroteAt at (statesText (s + 1) f marked) d g k
+pub states-on : (f : ℕ → ℕ) (marked : ℕ → Bool) (s : ℕ) {x : ℕ} {b : Bool} {at : ℕ} {d e g : List ℕ} {r k : ℕ} → x ≡ f s → b ≡ marked s → WroteAt at (statesText s f marked) d e r → WroteAt r (stateText x b s) e g k → k ≤ length d → WroteAt at (statesText (s + 1) f marked) d g k
 unfolding statesText
-states-on f marked s w v h = rw (add-one s) (placed-on w v h)
+states-on f marked s p q w v h = rw (add-one s) (placed-on w (rw (← p, ← q) v) h)
 
 -- one step more
 pub steps-on : (from to successor : ℕ → ℕ) (p : ℕ) {at : ℕ} {d e g : List ℕ} {r k : ℕ} → WroteAt at (stepsText p from to successor) d e r → WroteAt r (stepText (from p) (to p) (eqb (successor (from p)) p)) e g k → k ≤ length d → WroteAt at (stepsText (p + 1) from to successor) d g k

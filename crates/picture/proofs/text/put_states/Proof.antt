@@ -45,7 +45,7 @@ loop-again c =
     let a = c .before .before .before .before .before .before .before .before .before .before .before .args in
     let l = c .before .before .before .before .before .before .before .loop in
     let w = c .before .before .put-state in
-    (omega arith, w .kept .0 ∙ l .inv .1, states-on (λ i. getD (a .status .now) i 0) (λ i. hasTerminal (getD (a .marks .now) i 0)) (l .s) (l .inv .2) (rw (← c .before .before .before .before .status-of .ensures, ← c .before .before .before .is-terminal .ensures) (w .ensures .0)) (omega (arith, c .before .before .before .before .before .before .before .before .before .before .before .pre, l .inv .3, w .ensures .1)), omega (arith, l .inv .3, w .ensures .1))
+    (omega arith, w .kept .0 ∙ l .inv .1, states-on (λ i. getD (a .status .now) i 0) (λ i. hasTerminal (getD (a .marks .now) i 0)) (l .s) (c .before .before .before .before .status-of .ensures) (c .before .before .before .is-terminal .ensures) (l .inv .2) (w .ensures .0) (omega (arith, c .before .before .before .before .before .before .before .before .before .before .before .pre, l .inv .3, w .ensures .1)), omega (arith, l .inv .3, w .ensures .1))
 
 same-length : tie.Need-same-length Inv-loop μ-loop
 same-length c = c .before .loop .inv .1
