@@ -34,6 +34,10 @@ fn main() {
     ) {
         return;
     }
+    draw_record();
+}
+
+fn draw_record() {
     let mut status = [0u8; MAX_STATES];
     let mut marks = [0u8; MAX_STATES];
     let mut from = [0u16; RECORD_LIMIT];

@@ -35,6 +35,10 @@ fn main() {
     ) {
         return;
     }
+    list_record();
+}
+
+fn list_record() {
     let mut status = [0u8; MAX_STATES];
     let mut marks = [0u8; MAX_STATES];
     let mut from = [0u16; RECORD_LIMIT];

@@ -1,22 +1,10 @@
--- `main` lends tables and buffers that are long enough.
+-- `draw_record` lends tables and buffers that are long enough.
 -- Assumes nothing.
 use mathlib.Core.Path.{refl}
 use native.Mathlib.Omega.{arith}
 use borrow.Author.Needs.{needs}
-use Rattle.draw.proofs.main.Statement.{statement}
-use Rattle.draw.proofs.main.Tie as tie
-
-slice-aggregate-told-usage : tie.Need-slice-aggregate-told-usage
-slice-aggregate-told-usage c = search needs
-
-slice-aggregate-told-usage-2 : tie.Need-slice-aggregate-told-usage-2
-slice-aggregate-told-usage-2 c = search needs
-
-told-usage-requires : tie.Need-told-usage-requires
-told-usage-requires c κs = search needs
-
-returns : tie.Need-returns
-returns c = search needs
+use Rattle.draw.proofs.draw_record.Statement.{statement}
+use Rattle.draw.proofs.draw_record.Tie as tie
 
 slice-aggregate-draw-input : tie.Need-slice-aggregate-draw-input
 slice-aggregate-draw-input c = search needs
@@ -63,17 +51,13 @@ slice-aggregate-draw-input-14 c = search needs
 draw-input-requires : tie.Need-draw-input-requires
 draw-input-requires c κs = (omega arith, refl)
 
-returns-2 : tie.Need-returns-2
-returns-2 c = search needs
+returns : tie.Need-returns
+returns c = search needs
 
-pub main-spec : {M : Type 1} → statement M
-main-spec =
+pub draw-record-spec : {M : Type 1} → statement M
+draw-record-spec =
     tie.close
     (tie.spec
-    slice-aggregate-told-usage
-    slice-aggregate-told-usage-2
-    told-usage-requires
-    returns
     slice-aggregate-draw-input
     slice-aggregate-draw-input-2
     slice-aggregate-draw-input-3
@@ -89,4 +73,4 @@ main-spec =
     slice-aggregate-draw-input-13
     slice-aggregate-draw-input-14
     draw-input-requires
-    returns-2)
+    returns)

@@ -1,22 +1,10 @@
--- `main` lends tables and buffers that are long enough.
+-- `list_record` lends tables and buffers that are long enough.
 -- Assumes nothing.
 use mathlib.Core.Path.{refl}
 use native.Mathlib.Omega.{arith}
 use borrow.Author.Needs.{needs}
-use Rattle.listing.proofs.main.Statement.{statement}
-use Rattle.listing.proofs.main.Tie as tie
-
-slice-aggregate-told-usage : tie.Need-slice-aggregate-told-usage
-slice-aggregate-told-usage c = search needs
-
-slice-aggregate-told-usage-2 : tie.Need-slice-aggregate-told-usage-2
-slice-aggregate-told-usage-2 c = search needs
-
-told-usage-requires : tie.Need-told-usage-requires
-told-usage-requires c κs = search needs
-
-returns : tie.Need-returns
-returns c = search needs
+use Rattle.listing.proofs.list_record.Statement.{statement}
+use Rattle.listing.proofs.list_record.Tie as tie
 
 slice-aggregate-list-input : tie.Need-slice-aggregate-list-input
 slice-aggregate-list-input c = search needs
@@ -63,17 +51,13 @@ slice-aggregate-list-input-14 c = search needs
 list-input-requires : tie.Need-list-input-requires
 list-input-requires c κs = (omega arith, refl)
 
-returns-2 : tie.Need-returns-2
-returns-2 c = search needs
+returns : tie.Need-returns
+returns c = search needs
 
-pub main-spec : {M : Type 1} → statement M
-main-spec =
+pub list-record-spec : {M : Type 1} → statement M
+list-record-spec =
     tie.close
     (tie.spec
-    slice-aggregate-told-usage
-    slice-aggregate-told-usage-2
-    told-usage-requires
-    returns
     slice-aggregate-list-input
     slice-aggregate-list-input-2
     slice-aggregate-list-input-3
@@ -89,4 +73,4 @@ main-spec =
     slice-aggregate-list-input-13
     slice-aggregate-list-input-14
     list-input-requires
-    returns-2)
+    returns)
