@@ -88,7 +88,8 @@ enum radvoinis_mark {
 /* ---- The short calls */
 
 /* A run's state value and its tables (docs/ARCHITECTURE.md), laid out by radvoinis_tables_fresh in memory of the caller's. The
-   caller may read all of it; between two calls nobody else writes it. A copy of the struct speaks of the same tables. */
+   caller may read all of it; between two calls nobody else writes it. A copy speaks of the same tables, with a number of steps of
+   its own: send every update by one of the two. */
 typedef struct radvoinis_tables {
     size_t n;     /* the number of states */
     size_t limit; /* the step limit */

@@ -66,6 +66,7 @@ table() {
     row "the listing of an input" report/Progress report/Listing
     row '`picture::{begin, draw}`, call by call' picture/Drawer
     row "the picture of an input" picture/Progress picture/Picture
+    row '`streams::serve`' streams/Serving
     row '`query::status_after`' query/Answering
     row '`radvoinis_update`, `radvoinis_audit`' capi/Calls
     row '`radvoinis_state_status`' capi/Calls tables/Refused

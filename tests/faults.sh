@@ -1,8 +1,8 @@
 #!/usr/bin/env bash
 # Plants faults in the calls and the programs in plain C (the engine of bench/baseline.c; tests/calls.c, tests/lister.c and
-# tests/drawer.c over the naive definitions; the short calls of c/tables.c), one at a time, and runs the suite that must catch them on each, shortened: it must, and each
-# suite must pass what has no fault. With names of suites as arguments, those faults alone; with --few, a dozen of all suites. All take
-# about ten minutes, the few one. The last line is 'N passed, M failed'.
+# tests/drawer.c over the naive definitions; the short calls of c/tables.c), one at a time, and runs the suite that must catch them on
+# each, shortened: it must, and each suite must pass what has no fault. With names of suites as arguments, those faults alone; with
+# --few, some fifteen of all suites. All take about fifteen minutes, the few one. The last line is 'N passed, M failed'.
 set -u
 cd "$(dirname "$0")/.." || exit 2
 . tests/suites.sh

@@ -183,7 +183,8 @@ static void group_refused(void)
 {
     shown_lent = NULL;
     for (size_t i = 0; i < EDGES * EDGES && !failed; i++) {
-        uint32_t n = edge32(i / EDGES), limit = edge32(i % EDGES), number = n < 1 || n > MOST_STATES ? 1 : limit < 1 || limit > MOST_STEPS ? 2 : 3;
+        uint32_t n = edge32(i / EDGES), limit = edge32(i % EDGES);
+        uint32_t number = n < 1 || n > MOST_STATES ? 1 : limit < 1 || limit > MOST_STEPS ? 2 : 3;
         size_t size = size_of(n, limit);
         for (size_t k = 0; k < 6 && !failed; k++) {
             // too small by one, by more, empty, none at all; or any size, out of bounds
@@ -204,16 +205,19 @@ static void group_fresh(void)
     for (size_t n = 1; n <= 24 && !failed; n++)
         for (size_t limit = 1; limit <= 24 && !failed; limit++) lay_out(n, limit, below(4) * below(9));
     for (size_t i = 0; i < rounds(200) && !failed; i++)
-        lay_out(i % 4 == 0 ? MOST_STATES - below(3) : 1 + below(MOST_STATES), i % 3 == 0 ? MOST_STEPS - below(3) : 1 + below(MOST_STEPS), below(3));
+        lay_out(i % 4 == 0 ? MOST_STATES - below(3) : 1 + below(MOST_STATES),
+                i % 3 == 0 ? MOST_STEPS - below(3) : 1 + below(MOST_STEPS), below(3));
 }
 
 // ---- the calls beside each other
 
 static uint32_t short_update(Update u)
 {
-    call_begin();
     uint32_t first = (uint32_t)u.first, second = (uint32_t)u.second;
-    uint32_t answer = u.kind == 'E' ? radvoinis_step(&held.t, first, second) : u.kind == 'T' ? radvoinis_terminal(&held.t, first) : radvoinis_close(&held.t, first);
+    call_begin();
+    uint32_t answer = u.kind == 'E'   ? radvoinis_step(&held.t, first, second)
+                      : u.kind == 'T' ? radvoinis_terminal(&held.t, first)
+                                      : radvoinis_close(&held.t, first);
     call_end();
     return answer;
 }
@@ -274,19 +278,23 @@ static void audit_beside(int in_bounds)
     check_beside(in_bounds);
 }
 
+static uint32_t raw_write(uint8_t *buf, size_t len, size_t *at)
+{
+    return radvoinis_write(raw->n, raw->limit, raw->steps[1], bytes(raw, MARKS), raw->n, words(raw, FROM), raw->limit, words(raw, TO),
+                           raw->limit, buf, len, at);
+}
+
 // The writer, from a place in a buffer that just fits, or is one byte short.
 static void save_beside(int in_bounds)
 {
     static uint8_t record[RECORD_MOST + 128], again[sizeof record];
     size_t start = below(64), end = start, place = start, length = sizeof record;
     memset(record, 7, sizeof record), memset(again, 7, sizeof again);
-    uint32_t want = radvoinis_write(raw->n, raw->limit, raw->steps[1], bytes(raw, MARKS), raw->n, words(raw, FROM), raw->limit, words(raw, TO),
-                                    raw->limit, record, length, &end);
+    uint32_t want = raw_write(record, length, &end);
     if (want == 0 && one_in(2)) length = end;
     if (want == 0 && one_in(4)) {
         length = end - 1, end = start, memset(record, 7, sizeof record);
-        want = radvoinis_write(raw->n, raw->limit, raw->steps[1], bytes(raw, MARKS), raw->n, words(raw, FROM), raw->limit, words(raw, TO),
-                               raw->limit, record, length, &end);
+        want = raw_write(record, length, &end);
     }
     keep();
     call_begin();

@@ -31,6 +31,7 @@ fn main() {
           Reads a record of updates and writes where it ends as a Graphviz graph: each\n\
           state by its verdict, a terminal one with a double border, each accepted step.\n\
           It takes no arguments. radvoinis-draw <RECORD | dot -Tpng makes an image.\n",
+        os::arg_count(),
     ) {
         return;
     }

@@ -32,6 +32,7 @@ fn main() {
           Reads a record of updates and lists, line by line, the states that an update\n\
           settles as live or dead and the numbers of refusals; at the end, how many states\n\
           have each status. It takes no arguments.\n",
+        os::arg_count(),
     ) {
         return;
     }

@@ -3,6 +3,7 @@ ghost use mathlib.Core.Path.{_≡_};
 ghost use mathlib.Core.Bool.{true};
 ghost use mathlib.Core.Logic.{_↔_};
 ghost use Prim.Native.Nat.{_≤_};
+ghost use lib.Dec.{ltb};
 ghost use lib.ListN.{length};
 ghost use Rattle.streams.specs.declared.Served.{Served};
 ghost use Rattle.streams.specs.Serving.{Serves};
@@ -33,24 +34,30 @@ impl Served {
     }
 }
 
-// Whether the program has arguments, of which it takes none. Then it tells its usage: on standard output where that is asked for, by `--help` alone, else on standard error.
-pub fn told_usage(program: &[u8], usage: &[u8]) -> bool {
-    if os::arg_count() < 2 {
+// Tells the usage where the command line has more words than the program's name, since a program takes no arguments, and answers whether it did. It goes to standard output where it is asked for, by `--help` alone, else to standard error.
+pub fn told_usage(program: &[u8], usage: &[u8], words: usize) -> bool
+    ensures { λ r. ⌜ r ≡ ltb 1 words ⌝ }
+{
+    if words < 2 {
         return false;
     }
-    if asked_for_help() {
+    tell(program, usage, asked_for_help(words));
+    true
+}
+
+fn tell(program: &[u8], usage: &[u8], asked: bool) {
+    if asked {
         write_text(program, usage, usage.len());
     } else {
         io::write_all(STDERR_FILENO, usage);
     }
-    true
 }
 
 // An argument that is longer than the array counts as empty.
-fn asked_for_help() -> bool {
+fn asked_for_help(words: usize) -> bool {
     let mut word = [0u8; 6];
     let len = os::arg(1, &mut word);
-    os::arg_count() == 2 && len == 6 && is_help(word)
+    words == 2 && len == 6 && is_help(word)
 }
 
 fn is_help(word: [u8; 6]) -> bool {
