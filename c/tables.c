@@ -1,5 +1,5 @@
-/* The short calls of radvoinis.h: thin C over the proved raw calls. It lays out the tables and hands each on with its length; what is
-   tested, answered and written, the raw calls decide. */
+/* The short calls of radvoinis.h: thin C over the proved raw calls. Here the tables are laid out, and each is handed on with its length;
+   behind that the raw calls decide what is refused, answered and written. */
 #include "radvoinis.h"
 
 #include <string.h>
