@@ -1,8 +1,8 @@
--- Several spreads, one from each start that is not visited yet, visit exactly what is reached from a start.
+-- The starts of a verdict are gathered one by one; one spread from them visits exactly what is reached from a start.
 -- Assumes nothing.
 use mathlib.Core.Path.{_≡_, refl, sym, _∙_}
-use mathlib.Core.Logic.{_↔_, _⊎_, inl, inr, ⊎-elim}
-use mathlib.Core.Bool.{Bool, true, false, not, _&&_, _||_, false≢true, true≢false}
+use mathlib.Core.Logic.{_↔_, inr, ⊎-elim}
+use mathlib.Core.Bool.{Bool, true, false, not, _||_, false≢true, true≢false}
 use mathlib.Core.List.{List}
 use Prim.Native.Nat.{ℕ, _+_, _<_, _≤_}
 use native.Mathlib.Omega.{arith}
@@ -10,88 +10,119 @@ use native.Mathlib.Decide.{ℕ-discrete}
 use lib.Dec.{eqb}
 use lib.ListN.{length, getD}
 use borrow.Author.Tests.{eqb-true, eq-eqb}
-use Rattle.tables.specs.Work.{NoneVisited, marked}
+use Rattle.gid.specs.Systems.{Arcs}
+use Rattle.tables.specs.Tables.{visitedLength}
+use Rattle.tables.specs.Visits.{NoneVisited, marked}
 use Rattle.tables.specs.Keeping.{filled}
-use Rattle.search.specs.Spreading.{Arcs, Reached, start, back}
-use Rattle.tables.proofs.Keeping.{kept-none, kept-trans, filled-at, filled-kept}
-use Rattle.audit.specs.Facts.{All, Backed, Backs, startsAt, covered}
-use Rattle.audit.specs.Parts.{Started, passed, spreads, Gathered, Answered}
+use Rattle.tables.proofs.Keeping.{kept-none, kept-trans, kept-set, filled-at, filled-kept}
+use Rattle.tables.proofs.Marking.{marked-mark-other, kept-mark, zeros-unvisited}
+use Rattle.search.specs.declared.spread.Mode.{Mode}
+use Rattle.search.specs.declared.spread.Span.{Span}
+use Rattle.search.specs.Spreading.{allowed, Reached, start, back, unless, Before, Spread}
+use Rattle.search.proofs.Counting.{count-most}
+use Rattle.search.proofs.Marking.{unvisited-mark}
+use Rattle.search.proofs.Offering.{queued-more, queued-which, queued-still, queued-here}
+use Rattle.audit.specs.Facts.{All, Passes, Backs, startsAt, covered}
+use Rattle.audit.specs.Parts.{Started, passed, admitted, Gathered, Answered}
 use Rattle.audit.proofs.Reading.{both-true}
 
-module _ {a : Arcs} {ok : ℕ → ℕ → Bool} where
-  pub reached-range : {u w : ℕ} → u < a .n → Reached a ok u w → w < a .n
-  reached-range h (start e) = rw e h
-  reached-range h (back r l e b o) = b
-
-  reached-trans : {u v w : ℕ} → Reached a ok u v → Reached a ok v w → Reached a ok u w
-  reached-trans r (start e) = rw e r
-  reached-trans r (back q l e b o) = back (reached-trans r q) l e b o
-
-  -- what is reached by states not visited yet is reached
-  reached-loosen : (visited : List ℕ) {u w : ℕ} → Reached a (λ y i. not (marked visited y) && ok y i) u w → Reached a ok u w
-  reached-loosen visited (start e) = start e
-  reached-loosen visited (back {i = i} {s = s} r l e b o) = back (reached-loosen visited r) l e b (both-true (not (marked visited s)) (ok s i) o .1)
-
-module _ {a : Arcs} {ok : ℕ → ℕ → Bool} (starting : ℕ → Bool) {v₀ q₀ : List ℕ} where
-  pub gathered-first : NoneVisited (a .n) v₀ → Gathered 0 a ok starting v₀ q₀ v₀ q₀
-  gathered-first n =
+module _ (starting : ℕ → Bool) {n : ℕ} {v₀ q₀ : List ℕ} where
+  pub gathered-none : 0 < n → NoneVisited n v₀ → Gathered 0 n starting v₀ q₀ v₀ q₀ (record { len = 0; low = n; high = 0 })
+  gathered-none h none =
       record {
-        exact = λ w h. (λ m. absurd (true≢false (sym m ∙ n w h)), λ b. absurd (omega (arith, b .1)));
-        visits = kept-none (a .n) v₀;
-        queues = kept-none (a .n) q₀;
+        queued =
+            record {
+              inside = λ j k. absurd (omega arith);
+              seen = λ j k. absurd (omega arith);
+              within = λ j k. absurd (omega arith);
+              top = h;
+              room = omega (arith, count-most n (λ s. not (marked v₀ s)));
+            };
+        exact = λ w. (λ b. absurd (omega (arith, b .1)), λ p. absurd (omega (arith, p .0)));
+        only = λ w k m. absurd (true≢false (sym m ∙ none w k));
+        visits = kept-none (visitedLength n) v₀;
+        queues = kept-none n q₀;
       }
 
-  module _ {k : ℕ} {v q : List ℕ} (g : Gathered k a ok starting v₀ q₀ v q) (inside : k < a .n) where
-    -- what is reached from a visited state is visited
-    onward : {x w : ℕ} → Reached a ok k x → marked v x ≡ true → Reached a ok x w → w < a .n → marked v w ≡ true
-    onward {x} {w} r m p h =
-        let b = g .exact x (reached-range inside r) .0 m in
-        g .exact w h .1 (b .0, b .1, b .2, reached-trans (b .3) p)
+  module _ {k : ℕ} {v q : List ℕ} {s : Span} (g : Gathered k n starting v₀ q₀ v q s) (h : k < n) (inV₀ : visitedLength n ≤ length v₀) (inQ₀ : n ≤ length q₀) where
+    inV : visitedLength n ≤ length v
+    inV = omega (arith, g .visits .size)
 
-    -- what is reached is visited already, or reached by states that are not
-    fresh-or : {w : ℕ} → Reached a ok k w → (marked v w ≡ true) ⊎ Reached a (λ y i. not (marked v y) && ok y i) k w
-    fresh-or (start e) = inr (start e)
-    fresh-or (back {v = x} {i = i} {s = w} r l e b o) = at (marked v w) refl (fresh-or r)
+    inQ : n ≤ length q
+    inQ = omega (arith, g .queues .size)
+
+    new : marked v k ≡ false
+    new = at (marked v k) refl
       where
-        at : (t : Bool) → marked v w ≡ t → (marked v x ≡ true) ⊎ Reached a (λ y j. not (marked v y) && ok y j) k x → (marked v w ≡ true) ⊎ Reached a (λ y j. not (marked v y) && ok y j) k w
-        at true z c = inl z
-        at false z (inl m) = inl (onward r m (back (start refl) l e b o) b)
-        at false z (inr f) = inr (back f l e b (rw z o))
+        at : (b : Bool) → marked v k ≡ b → b ≡ false
+        at true z = absurd (omega (arith, g .only k h z .0))
+        at false z = refl
+
+    -- The queue has room for one more.
+    pub gathered-room : s .len < n
+    gathered-room = omega (arith, unvisited-mark v k n h inV new, g .queued .room)
+
+    newer : {w : ℕ} → Passes k starting w → Passes (k + 1) starting w
+    newer (l, e) = (omega arith, e)
 
     -- a start below k, or k itself
-    older : {w : ℕ} → Backed (k + 1) a ok starting w → Backed k a ok starting w ⊎ ((starting k ≡ true) × Reached a ok k w)
-    older {w} (u, h, s, r) = at (ℕ-discrete u k)
+    older : {w : ℕ} (P : Type 0) → (Passes k starting w → P) → (w ≡ k → starting k ≡ true → P) → Passes (k + 1) starting w → P
+    older {w} P f z (l, e) = at (ℕ-discrete w k)
       where
-        at : Dec (u ≡ k) → Backed k a ok starting w ⊎ ((starting k ≡ true) × Reached a ok k w)
-        at (yes e) = inr (rw e at s, rw e at r)
-        at (no d) = inl (u, omega arith, s, r)
+        at : Dec (w ≡ k) → P
+        at (yes d) = z d (rw d at e)
+        at (no d) = f (omega arith, e)
 
-    newer : {w : ℕ} → Backed k a ok starting w → Backed (k + 1) a ok starting w
-    newer (u, h, s, r) = (u, omega arith, s, r)
-
-    pub gathered-next : {v′ q′ : List ℕ} → Started a (λ y i. not (marked v y) && ok y i) (starting k) k v q v′ q′ → Gathered (k + 1) a ok starting v₀ q₀ v′ q′
-    gathered-next (passed s e f) =
+    pub gathered-more : {v′ q′ : List ℕ} {s′ : Span} → Started (starting k) k v q s v′ q′ s′ → Gathered (k + 1) n starting v₀ q₀ v′ q′ s′
+    gathered-more (passed e ev eq es) =
+        rw (ev, eq, es)
+        (record {
+          queued = g .queued;
+          exact = λ w. (λ b. newer (g .exact w .0 b), older (Before q (s .len) w) (g .exact w .1) (λ d y. absurd (false≢true (sym e ∙ y))));
+          only = λ w l m. newer (g .only w l m);
+          visits = g .visits;
+          queues = g .queues;
+        })
+    gathered-more {v′} {q′} {s′} (admitted e adm) =
+        let r = g .queued .room in
         record {
-          exact = λ w h. rw e (λ m. newer (g .exact w h .0 m), λ b. ⊎-elim (g .exact w h .1) (λ p. onward (start refl) (s (p .0)) (p .1) h) (older b));
-          visits = rw e (g .visits);
-          queues = rw f (g .queues);
-        }
-    gathered-next (spreads r s d) =
-        record {
-          exact = λ w h. (
-            λ m. ⊎-elim (λ y. newer (g .exact w h .0 y)) (λ y. (k, omega arith, s, reached-loosen v y)) (d .exact w h .0 m),
-            λ b. d .exact w h .1 (⊎-elim (λ y. inl (g .exact w h .1 y)) (λ p. fresh-or (p .1)) (older b)),
+          queued = queued-more n k r inV inQ h new adm (g .queued);
+          exact = λ w. (
+            λ b. ⊎-elim (λ c. newer (g .exact w .0 c)) (λ d. rw d (omega arith, e)) (queued-which n k r inV inQ h new adm w b),
+            older (Before q′ (s′ .len) w) (λ p. queued-still n k r inV inQ h new adm w (g .exact w .1 p)) (λ d y. rw d (queued-here n k r inV inQ h new adm)),
           );
-          visits = kept-trans (g .visits) (d .visits);
-          queues = kept-trans (g .queues) (d .queues);
+          only = λ w l m. at w l m (ℕ-discrete w k);
+          visits = kept-trans (g .visits) (rw (adm .marks) (kept-mark v k n h));
+          queues = kept-trans (g .queues) (rw (adm .last) (kept-set n q (s .len) k gathered-room));
         }
+      where
+        at : (w : ℕ) → w < n → marked v′ w ≡ true → Dec (w ≡ k) → Passes (k + 1) starting w
+        at w l m (yes d) = rw d (omega arith, e)
+        at w l m (no d) = newer (g .only w l (sym (marked-mark-other v k w d) ∙ (rw (adm .marks) at m)))
 
-  pub gathered-last : {k : ℕ} {v q : List ℕ} → Gathered k a ok starting v₀ q₀ v q → (n : ℕ) → k ≤ n → n ≤ k → Gathered n a ok starting v₀ q₀ v q
-  gathered-last {k} {v} {q} g n h l = let e : k ≡ n = omega arith in rw e at g
+  pub gathered-last : {k : ℕ} {v q : List ℕ} {s : Span} → Gathered k n starting v₀ q₀ v q s → k ≤ n → n ≤ k → Gathered n n starting v₀ q₀ v q s
+  gathered-last {k} g h l = let e : k ≡ n = omega arith in rw e at g
 
-pub zero-unmarked : (l : List ℕ) (s : ℕ) → getD l s 0 ≡ 0 → marked l s ≡ false
-unfolding marked
-zero-unmarked l s e = rw e
+pub reached-range : {n : ℕ} {Arc : Arcs} {ok : ℕ → ℕ → Bool} {f : ℕ → Bool} {w : ℕ} → Reached n Arc ok (Passes n f) w → w < n
+reached-range (start p) = p .0
+reached-range (back r l h o) = h
+
+-- A spread from the gathered starts.
+module _ {starting : ℕ → Bool} {n : ℕ} {Arc : Arcs} {ok : ℕ → ℕ → Bool} {v₀ q₀ v q v′ q′ : List ℕ} {s r : Span} (g : Gathered n n starting v₀ q₀ v q s) (d : Spread n Arc ok v q s v′ q′ r) where
+  loosen : {w : ℕ} → Reached n Arc (unless v ok) (Before q (s .len)) w → Reached n Arc ok (Passes n starting) w
+  loosen {w} (start b) = start (g .exact w .0 b)
+  loosen (back {i = i} {s = w} c l h o) = back (loosen c) l h (both-true (not (marked v w)) (ok w i) o .1)
+
+  tighten : {w : ℕ} → Reached n Arc ok (Passes n starting) w → Reached n Arc (unless v ok) (Before q (s .len)) w
+  tighten {w} (start p) = start (g .exact w .1 p)
+  tighten (back {v = x} {i = i} {s = w} c l h o) = at (marked v w) refl (tighten c)
+    where
+      at : (b : Bool) → marked v w ≡ b → Reached n Arc (unless v ok) (Before q (s .len)) x → Reached n Arc (unless v ok) (Before q (s .len)) w
+      at true z e = start (g .exact w .1 (g .only w h z))
+      at false z e = back e l h (rw z o)
+
+  reaches : (w : ℕ) → w < n → (marked v′ w ≡ true) ↔ Reached n Arc ok (Passes n starting) w
+  reaches w h = (λ m. ⊎-elim (λ z. start (g .only w h z)) loosen (d .exact w h .0 m), λ c. d .exact w h .1 (inr (tighten c)))
 
 covered-marked : (verdict : ℕ) (status visited : List ℕ) (s : ℕ) → covered verdict status visited s ≡ true → getD status s 0 ≡ verdict → marked visited s ≡ true
 unfolding covered
@@ -106,16 +137,24 @@ marked-covered verdict status visited s f = at (eqb (getD status s 0) verdict) r
     at false z = refl
 
 -- Whether each state with the verdict was visited; the marks are cleared.
-pub answered : {a : Arcs} {ok : ℕ → ℕ → Bool} {v q v′ q′ v″ : List ℕ} {r : Bool} (verdict : ℕ) (status marks : List ℕ) → Gathered (a .n) a ok (startsAt verdict status marks) v q v′ q′ → (r ≡ true) ↔ All (a .n) (covered verdict status v′) → a .n ≤ length v′ → v″ ≡ filled (a .n) 0 v′ → Answered (a .n) (Backs a ok verdict status marks) v q v″ q′ r
-answered {a = a} {v′ = v′} {v″ = v″} verdict status marks g t w z =
+pub answered :
+    {n : ℕ} {Arc : Arcs} {v₀ q₀ v q v′ q′ v″ : List ℕ} {s r : Span} {b : Bool} (mode : Mode) (verdict : ℕ) (status marks successor : List ℕ) →
+    Gathered n n (startsAt verdict status marks) v₀ q₀ v q s →
+    Spread n Arc (allowed mode status successor) v q s v′ q′ r →
+    (b ≡ true) ↔ All n (covered verdict status v′) →
+    visitedLength n ≤ length v′ →
+    {k : ℕ} → k ≡ visitedLength n →
+    v″ ≡ filled k 0 v′ →
+    Answered n (Backs n Arc mode verdict status marks successor) v₀ q₀ v″ q′ b
+answered {n = n} {v′ = v′} {v″ = v″} mode verdict status marks successor g d t w e z =
     record {
       exact = (
-        λ e s h k. g .exact s h .0 (covered-marked verdict status v′ s (t .0 e s h) k),
-        λ b. t .1 (λ s h. marked-covered verdict status v′ s (λ k. g .exact s h .1 (b s h k))),
+        λ y s h k. reaches g d s h .0 (covered-marked verdict status v′ s (t .0 y s h) k),
+        λ b. t .1 (λ s h. marked-covered verdict status v′ s (λ k. reaches g d s h .1 (b s h k))),
       );
-      none = λ s h. zero-unmarked v″ s (rw z (filled-at (a .n) 0 v′ s h));
-      visits = kept-trans (g .visits) (rw z (filled-kept (a .n) 0 v′ w));
-      queues = g .queues;
+      none = zeros-unvisited n v″ (λ s h. rw (z, e) (filled-at (visitedLength n) 0 v′ s h));
+      visits = kept-trans (g .visits) (kept-trans (d .visits) (rw (z, e) (filled-kept (visitedLength n) 0 v′ w)));
+      queues = kept-trans (g .queues) (d .queues);
     }
 
 -- Two claims in turn.

@@ -9,18 +9,17 @@ use Prim.Native.Nat.{ℕ, _<_, _≤_}
 use native.Mathlib.Omega.{arith}
 use lib.ListN.{length, getD}
 use Rattle.tables.specs.declared.Graph.{Graph}
-use Rattle.tables.specs.Tables.{Tables, Long, enough, lengths, checkNeeds}
-use Rattle.tables.specs.Work.{NoneVisited}
+use Rattle.tables.specs.Tables.{Tables, nodesOf, visitedLength, Long, enough, lengths, checkNeeds}
+use Rattle.tables.specs.Visits.{NoneVisited}
 use Rattle.tables.specs.Refused.{lentNumber}
 use Rattle.tables.specs.Marks.{hasTerminal, hasClosed}
 use Rattle.tables.specs.Fitting.{Fits}
 use Rattle.tables.proofs.Sizes.{long-checked, long-fewer}
 use Rattle.tables.proofs.Refusing.{Lent, lent-leaves, lent-passes, lent-refuses}
-use Rattle.tables.specs.Keeping.{Kept}
-use Rattle.search.specs.Spreading.{arcs}
+use Rattle.tables.specs.Keeping.{Kept, KeptVisited}
 use Rattle.tables.proofs.Keeping.{kept-none, kept-trans}
 use Rattle.audit.specs.declared.answer.Audit.the-variants.{Fits as Yes, Unfit as No, Refused}
-use Rattle.audit.specs.Facts.{All, stateFits, stepFits, TableFacts}
+use Rattle.audit.specs.Facts.{All, stateFits, stepFits, stepsInto, TableFacts}
 use Rattle.audit.specs.Parts.{Below, ListFits, Answered, Claims, Judged}
 use Rattle.audit.specs.Audited.{auditRefusal, Audited}
 use Rattle.audit.proofs.Reading.{StepFacts, decides-state, decides-step}
@@ -46,7 +45,7 @@ ends-below n m status marks from to a = (λ p h. fact p h .source, λ p h. fact 
     fact p h = decides-step n status marks (getD from p 0) (getD to p 0) .sound (a p h)
 
 -- A no: some fact fails.
-pub denied : {n m : ℕ} {t : Tables} {queue visited : List ℕ} → (TableFacts n m t → ⊥) → Kept n (t .queue) queue → Kept n (t .visited) visited → Judged n m t false queue visited
+pub denied : {n m : ℕ} {t : Tables} {queue visited : List ℕ} → (TableFacts n m t → ⊥) → Kept n (t .queue) queue → KeptVisited n (t .visited) visited → Judged n m t false queue visited
 denied f q v = record { exact = (λ e. absurd (false≢true e), λ t. absurd (f t)); none = λ e. absurd (false≢true e); visits = v; queues = q }
 
 -- The last part decides where all others passed.
@@ -56,7 +55,7 @@ pub judged :
     (b ≡ true) ↔ All m (λ p. stepFits n (t .status) (t .marks) (getD (t .from) p 0) (getD (t .to) p 0)) → b ≡ true →
     ListFits n m (t .to) (t .inHead) (t .inNext) (t .queue) queue₁ c → c ≡ true →
     ListFits n m (t .from) (t .outHead) (t .outNext) queue₁ queue₂ d → d ≡ true →
-    Answered n (Claims (arcs n m (t .from) (t .inHead) (t .inNext)) (t .status) (t .marks) (t .successor)) (t .visited) queue₂ visited queue r →
+    Answered n (Claims n (stepsInto n m t) (t .status) (t .marks) (t .successor)) (t .visited) queue₂ visited queue r →
     Judged n m t r queue visited
 judged t states sa steps sb into sc outOf sd claims =
     record {
@@ -70,22 +69,22 @@ judged t states sa steps sb into sc outOf sd claims =
     }
 
 module _ (g : Graph) (t : Tables) where
-  module _ (passed : lentNumber g (enough (checkNeeds (g .n) (g .limit) (lengths t))) ≡ 0) where
+  module _ (passed : lentNumber g (enough (checkNeeds (g .n) (nodesOf g) (g .limit) (lengths t))) ≡ 0) where
     -- what the tests 1 to 4 leave
-    leaves : Lent g (enough (checkNeeds (g .n) (g .limit) (lengths t)))
-    leaves = lent-leaves g (enough (checkNeeds (g .n) (g .limit) (lengths t))) passed
+    leaves : Lent g (enough (checkNeeds (g .n) (nodesOf g) (g .limit) (lengths t)))
+    leaves = lent-leaves g (enough (checkNeeds (g .n) (nodesOf g) (g .limit) (lengths t))) passed
 
-    pub few : (g .n < 65536) × (g .steps < 65535)
+    pub few : (0 < g .n) × (g .n < 65536) × (g .steps < 65535)
     few = omega (arith, leaves)
 
-    pub long-enough : Long (g .n) (g .steps) t
-    long-enough = long-fewer (leaves .room) (long-checked (g .n) (g .limit) t (leaves .longs))
+    pub long-enough : Long (g .n) (nodesOf g) (g .steps) t
+    long-enough = long-fewer (leaves .room) (long-checked (g .n) (nodesOf g) (g .limit) t (leaves .longs))
 
     fits : TableFacts (g .n) (g .steps) t ↔ Fits g t
     fits = facts-fit g t (long-enough .from) (long-enough .to)
 
     none-refused : (k : ℕ) → auditRefusal g t ≡ some k → ⊥
-    none-refused k e = let p = lent-passes g (enough (checkNeeds (g .n) (g .limit) (lengths t))) (t .marks) (t .status) passed in let z : _≡_ {A = ℕ} 0 1 = cc in omega arith
+    none-refused k e = let p = lent-passes g (enough (checkNeeds (g .n) (nodesOf g) (g .limit) (lengths t))) false (t .marks) (t .status) passed in let z : _≡_ {A = ℕ} 0 1 = cc in omega arith
 
     -- A yes,
     pub says-yes : {queue visited : List ℕ} → Judged (g .n) (g .steps) t true queue visited → Audited g t Yes queue visited
@@ -127,15 +126,15 @@ module _ (g : Graph) (t : Tables) where
         }
 
   -- and a refusal.
-  pub says-refused : (k : ℕ) → lentNumber g (enough (checkNeeds (g .n) (g .limit) (lengths t))) ≡ k → (k ≡ 0 → ⊥) → Audited g t (Refused k) (t .queue) (t .visited)
+  pub says-refused : (k : ℕ) → lentNumber g (enough (checkNeeds (g .n) (nodesOf g) (g .limit) (lengths t))) ≡ k → (k ≡ 0 → ⊥) → Audited g t (Refused k) (t .queue) (t .visited)
   says-refused k e n =
-      let r = lent-refuses g (enough (checkNeeds (g .n) (g .limit) (lengths t))) (t .marks) (t .status) k e n in
+      let r = lent-refuses g (enough (checkNeeds (g .n) (nodesOf g) (g .limit) (lengths t))) false (t .marks) (t .status) k e n in
       record {
         refused = λ j. (λ q. let z : k ≡ j = cc in rw z at r, λ q. let z : k ≡ j = cc in rw z);
         unchanged = λ j q. (refl, refl);
         yes = λ p. absurd (let z : _≡_ {A = ℕ} 0 1 = cc in omega arith);
         no = λ p. absurd (let z : _≡_ {A = ℕ} 0 1 = cc in omega arith);
-        queue = kept-none (g .n) (t .queue);
-        visited = kept-none (g .n) (t .visited);
+        queue = kept-none (nodesOf g) (t .queue);
+        visited = kept-none (visitedLength (nodesOf g)) (t .visited);
         still = λ q. absurd (let z : _≡_ {A = ℕ} 0 1 = cc in omega arith);
       }

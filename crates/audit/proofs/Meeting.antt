@@ -4,14 +4,13 @@ use mathlib.Core.Path.{_≡_, refl, sym, _∙_, subst}
 use mathlib.Core.Logic.{inl, inr}
 use mathlib.Core.Bool.{Bool, true, false, false≢true}
 use mathlib.Core.List.{List}
-use Prim.Native.Nat.{ℕ, zero, suc, _<_, _≤_}
+use Prim.Native.Nat.{ℕ, _+_, _<_, _≤_}
 use native.Mathlib.Omega.{arith}
-use native.Mathlib.Decide.{ℕ-discrete}
 use lib.ListN.{getD}
 use borrow.Author.Tests.{eq-eqb}
 use Rattle.gid.specs.declared.Update.{Update}
 use Rattle.gid.specs.declared.Update.the-variants.{Step, Terminal, Close}
-use Rattle.gid.specs.Updates.{Mentions}
+use Rattle.gid.specs.Updates.{edge, Mentions}
 use Rattle.gid.specs.Histories.{History, Has, IsTerminal, IsClosed, IsNamed}
 use Rattle.gid.specs.Verdicts.{Reaches, here, along, Live}
 use Rattle.gid.specs.Statuses.{isNamed, isTerminal, isClosed, status, statusOpen, statusUnknown, statusLive}
@@ -23,14 +22,14 @@ use Rattle.gid.proofs.Statuses.{live-named, closed-named, Classified, as-live a
 use Rattle.tables.specs.declared.Graph.{Graph}
 use Rattle.tables.specs.Tables.{Tables}
 use Rattle.tables.specs.Marks.{hasNamed, hasTerminal, hasClosed}
-use Rattle.tables.specs.Work.{lastBefore}
-use Rattle.tables.specs.Fitting.{marksOf, Consistent}
+use Rattle.tables.specs.Work.{ListRule}
+use Rattle.tables.specs.Fitting.{StepAt, marksOf, Consistent}
 use Rattle.tables.proofs.Bits.{bits, byte, marks-bits, closed-bit}
-use Rattle.tables.proofs.Listed.{step-listed, listed-step}
-use Rattle.adjacency.proofs.Walks.{linked, last-here, last-earlier}
+use Rattle.tables.proofs.Listed.{lists-of, step-in-list, list-has-step}
+use Rattle.adjacency.proofs.Walks.{linked, meets-none, clamp-keeps}
 use Rattle.search.specs.declared.spread.Mode.the-variants.{Tree, Claimed}
-use Rattle.search.specs.Spreading.{arcs, allowed, start, back}
-use Rattle.audit.specs.Facts.{starts, startsAt, Backed, TableFacts}
+use Rattle.search.specs.Spreading.{start, back}
+use Rattle.audit.specs.Facts.{starts, Backed, stepsInto, TableFacts}
 use Rattle.audit.proofs.Reading.{Suited, as-unseen, as-open, as-unknown, as-dead, as-live, StateFacts, decides-state, StepFacts, decides-step}
 
 -- The byte of each status.
@@ -65,16 +64,6 @@ module _ (h : History) (s : ℕ) where
           as-unseen e
           (marks-are (refutes (isNamed h s) (decides-named h s) n) (unlive (λ l. n (live-named l))) (refutes (isClosed h s) (decides-closed h s) (λ c. n (closed-named c))))
 
--- a list with a step is not empty
-last-some : (ends : List ℕ) (m p : ℕ) → p < m → 0 < lastBefore ends m (getD ends p 0)
-last-some ends zero p h = absurd (omega arith)
-last-some ends (suc m) p h = at (ℕ-discrete (getD ends m 0) (getD ends p 0)) (ℕ-discrete p m) (last-some ends m p)
-  where
-    at : Dec (getD ends m 0 ≡ getD ends p 0) → Dec (p ≡ m) → (p < m → 0 < lastBefore ends m (getD ends p 0)) → 0 < lastBefore ends (suc m) (getD ends p 0)
-    at (yes e) z i = rw (last-here ends m (getD ends p 0) e) (omega arith)
-    at (no d) (yes z) i = absurd (d (rw z))
-    at (no d) (no z) i = rw (last-earlier ends m (getD ends p 0) d) (i (omega arith))
-
 module _ {h : History} {g : Graph} {t : Tables} (c : Consistent h g t) where
   -- the marks that the tables have
   named-mark : (s : ℕ) → s < g .n → IsNamed h s → hasNamed (getD (t .marks) s 0) ≡ true
@@ -93,17 +82,13 @@ module _ {h : History} {g : Graph} {t : Tables} (c : Consistent h g t) where
   head-some : (s : ℕ) → s < g .n → getD (t .marks) s 0 ≡ 1 → getD (t .inHead) s 0 ≡ 0 → getD (t .outHead) s 0 ≡ 0 → ⊥
   head-some s k e i o = let q = mark-named s k (rw e) in met (q .0) (q .1) (q .2)
     where
+      -- a list with a step is not empty
+      unlisted : {ends head next : List ℕ} → ListRule (g .n) (g .steps) ends head next → getD head s 0 ≡ 0 → {p : ℕ} → p < g .steps → getD ends p 0 ≡ s → ⊥
+      unlisted r z {p} l y = meets-none (rw (z, clamp-keeps 0 (g .steps + 1) (omega arith)) at (linked r s k p .1 (l, y)))
+
       met : (x : Update) → Has h x → Mentions x s → ⊥
-      met (Step u v) q (inl z) =
-          let r = step-listed c u v q in
-          let w : getD (t .from) (r .0) 0 ≡ s = r .2 ∙ z in
-          let y : 0 < lastBefore (t .from) (g .steps) s = rw w at (last-some (t .from) (g .steps) (r .0) (r .1)) in
-          omega (arith, c .outOf .heads s k)
-      met (Step u v) q (inr z) =
-          let r = step-listed c u v q in
-          let w : getD (t .to) (r .0) 0 ≡ s = r .3 ∙ z in
-          let y : 0 < lastBefore (t .to) (g .steps) s = rw w at (last-some (t .to) (g .steps) (r .0) (r .1)) in
-          omega (arith, c .into .heads s k)
+      met (Step d) q (inl z) = let r = step-in-list (lists-of c) (d .from) (d .to) q in unlisted (c .outOf) o (r .1 .0) (r .1 .1 ∙ z)
+      met (Step d) q (inr z) = let r = step-in-list (lists-of c) (d .from) (d .to) q in unlisted (c .into) i (r .1 .0) (r .1 .2 ∙ z)
       met (Terminal u) q z = false≢true (rw e at (terminal-mark s k (subst (IsTerminal h) z q)))
       met (Close u) q z = false≢true (rw e at (closed-mark s k (subst (IsClosed h) z q)))
 
@@ -113,16 +98,16 @@ module _ {h : History} {g : Graph} {t : Tables} (c : Consistent h g t) where
         unvisited = c .unvisited s k;
         suited = rw (c .status s k, c .marks s k) (suited h s);
         named = head-some s k;
-        follows = (λ e. c .successor .listed s (k, e), λ n. c .successor .others s k n);
+        follows = (λ e. let r = c .successor .listed s (k, e) .1 in (r .0, r .1), λ n. c .successor .others s k n);
       }
 
   step : (p : ℕ) → p < g .steps → StepFacts (g .n) (t .status) (t .marks) (getD (t .from) p 0) (getD (t .to) p 0)
   step p k =
       let u = getD (t .from) p 0 in
       let v = getD (t .to) p 0 in
-      let q = listed-step c p k in
-      let a : IsNamed h u = (Step u v, q, inl refl) in
-      let b : IsNamed h v = (Step u v, q, inr refl) in
+      let q = list-has-step (lists-of c) (k, refl, refl) in
+      let a : IsNamed h u = (Step (edge u v), q, inl refl) in
+      let b : IsNamed h v = (Step (edge u v), q, inr refl) in
       let i = c .inRange u a in
       let j = c .inRange v b in
       record {
@@ -134,31 +119,26 @@ module _ {h : History} {g : Graph} {t : Tables} (c : Consistent h g t) where
         deads = λ e. c .status v j ∙ status-dead-by-reach h v .1 (dead-target q (status-dead-by-reach h u .0 (sym (c .status u i) ∙ e)));
       }
 
+  -- A walk over the steps into a state meets each of them.
+  walked : {s p v : ℕ} → StepAt (g .steps) (t .from) (t .to) s p v → stepsInto (g .n) (g .steps) t s p v
+  walked {s} {p} {v} a = (linked (c .into) v (c .inRange v (Step (edge s v), list-has-step (lists-of c) a, inr refl)) p .1 (a .0, a .2), a .1)
+
   -- A live state is reached backwards from a terminal one, through live states.
-  live-backed : {s v : ℕ} → Reaches h s v → IsTerminal h v → s < g .n → Backed (g .n) (arcs (g .n) (g .steps) (t .from) (t .inHead) (t .inNext)) (allowed Claimed (t .status) (t .successor)) (startsAt statusLive (t .status) (t .marks)) s
+  live-backed : {s v : ℕ} → Reaches h s v → IsTerminal h v → s < g .n → Backed (g .n) (stepsInto (g .n) (g .steps) t) Claimed statusLive (t .status) (t .marks) (t .successor) s
   unfolding starts
-  live-backed {s} here e k = (s, k, terminal-mark s k e, start refl)
+  live-backed {s} here e k = start (k, terminal-mark s k e)
   live-backed {s} (along {v = w} q p) e k =
-      let r = step-listed c s w q in
-      let j = c .inRange w (Step s w, q, inr refl) in
-      let b = live-backed p e j in (
-        b .0,
-        b .1,
-        b .2,
-        back (b .3) (linked (c .into) w j (r .0) .1 (r .1, r .3)) (sym (r .2)) k
-            (eq-eqb (getD (t .status) s 0) statusLive (c .status s k ∙ status-live h s .1 (_, along q p, e))),
-      )
+      let r = step-in-list (lists-of c) s w q in
+      back (live-backed p e (c .inRange w (Step (edge s w), q, inr refl))) (walked (r .1)) k
+      (eq-eqb (getD (t .status) s 0) statusLive (c .status s k ∙ status-live h s .1 (_, along q p, e)))
 
   -- An unknown state is reached backwards from an open one, by successors.
-  chain-backed : {s k : ℕ} → Chain (Having (g .n) (λ r. getD (t .status) r 0) statusUnknown) (Having (g .n) (λ r. getD (t .status) r 0) statusOpen) (λ r. getD (t .to) (getD (t .successor) r 0) 0) s k → Backed (g .n) (arcs (g .n) (g .steps) (t .from) (t .inHead) (t .inNext)) (allowed Tree (t .status) (t .successor)) (startsAt statusUnknown (t .status) (t .marks)) s
+  chain-backed : {s k : ℕ} → Chain (Having (g .n) (λ r. getD (t .status) r 0) statusUnknown) (Having (g .n) (λ r. getD (t .status) r 0) statusOpen) (λ r v. StepAt (g .steps) (t .from) (t .to) r (getD (t .successor) r 0) v) s k → Backed (g .n) (stepsInto (g .n) (g .steps) t) Tree statusUnknown (t .status) (t .marks) (t .successor) s
   unfolding starts
-  chain-backed {s} (chain-ends (k, e)) = (s, k, eq-eqb (getD (t .status) s 0) statusOpen e, start refl)
-  chain-backed {s} (chain-follows (k, e) q) =
-      let b = chain-backed q in
-      let l = c .successor .listed s (k, e) in
+  chain-backed {s} (chain-ends (k, e)) = start (k, eq-eqb (getD (t .status) s 0) statusOpen e)
+  chain-backed {s} (chain-follows (k, e) a q) =
       let p = getD (t .successor) s 0 in
-      let j = c .inRange (getD (t .to) p 0) (Step (getD (t .from) p 0) (getD (t .to) p 0), listed-step c p (l .0), inr refl) in
-      (b .0, b .1, b .2, back (b .3) (linked (c .into) (getD (t .to) p 0) j p .1 (l .0, refl)) (sym (l .1)) k (rw (eq-eqb (getD (t .status) s 0) statusUnknown e) (eq-eqb p p refl)))
+      back (chain-backed q) (walked a) k (rw (eq-eqb (getD (t .status) s 0) statusUnknown e) (eq-eqb p p refl))
 
   pub met : TableFacts (g .n) (g .steps) t
   met =

@@ -14,7 +14,7 @@ use Rattle.gid.specs.Statuses.{statusUnseen, statusOpen, statusUnknown, statusL
 use Rattle.gid.specs.Successors.{noSuccessor}
 use Rattle.gid.proofs.Decide.{Decides, decides-iff, decides-eq, decides-and, decides-or, decides-not, decides-false}
 use Rattle.tables.specs.Marks.{hasNamed, hasTerminal, hasClosed}
-use Rattle.tables.specs.Work.{marked}
+use Rattle.tables.specs.Visits.{marked}
 use Rattle.audit.specs.Facts.{suits, mentioned, successorFits, stateFits, bothNamed, agrees, stepFits}
 
 -- A status with a byte of marks.
@@ -25,6 +25,9 @@ pub data Suited (status mark : ℕ) : Type 0 where
   as-dead : status ≡ statusDead → mark ≡ 5 → Suited status mark
   as-live : status ≡ statusLive → mark ≤ 7 → hasNamed mark ≡ true → Suited status mark
 
+abbrev byteOf : ℕ → ℕ
+byteOf k = cond (eqb k statusUnseen) 0 (cond (eqb k statusOpen) 1 5)
+
 module _ {k b : ℕ} where
   pub suited-low : Suited k b → b ≤ 7
   suited-low (as-unseen a e) = omega arith
@@ -33,13 +36,13 @@ module _ {k b : ℕ} where
   suited-low (as-dead a e) = omega arith
   suited-low (as-live a l e) = l
 
-  -- a terminal state is live
-  pub suited-terminal : Suited k b → hasTerminal b ≡ true → k ≡ statusLive
+  -- a terminal state is live, and named
+  pub suited-terminal : Suited k b → hasTerminal b ≡ true → (k ≡ statusLive) × (hasNamed b ≡ true)
   suited-terminal (as-unseen a e) q = absurd (false≢true (rw e at q))
   suited-terminal (as-open a e) q = absurd (false≢true (rw e at q))
   suited-terminal (as-unknown a e) q = absurd (false≢true (rw e at q))
   suited-terminal (as-dead a e) q = absurd (false≢true (rw e at q))
-  suited-terminal (as-live a l e) q = a
+  suited-terminal (as-live a l e) q = (a, e)
 
   -- a closed one is named
   pub suited-closed : Suited k b → hasClosed b ≡ true → hasNamed b ≡ true
@@ -48,6 +51,14 @@ module _ {k b : ℕ} where
   suited-closed (as-unknown a e) q = rw e
   suited-closed (as-dead a e) q = rw e
   suited-closed (as-live a l e) q = e
+
+  -- a status other than live has one byte
+  pub suited-byte : Suited k b → (k ≡ statusLive → ⊥) → b ≡ byteOf k
+  suited-byte (as-unseen a e) n = rw (a, e)
+  suited-byte (as-open a e) n = rw (a, e)
+  suited-byte (as-unknown a e) n = rw (a, e)
+  suited-byte (as-dead a e) n = rw (a, e)
+  suited-byte (as-live a l e) n = absurd (n a)
 
 -- a test that is chosen by another
 chosen : (b : Bool) {P Q R : Type 0} {x y : Bool} → Decides b P → Decides x Q → Decides y R → Decides (cond b x y) ((P × Q) ⊎ ((P → ⊥) × R))

@@ -10,10 +10,10 @@ use Rattle.gid.specs.Histories.{History}
 use Rattle.gid.specs.Refusals.{first, lent}
 use Rattle.gid.specs.Outcomes.{Outcome}
 use Rattle.tables.specs.declared.Graph.{Graph}
-use Rattle.tables.specs.Tables.{Tables, enough, lengths, checkNeeds, tablesOf}
+use Rattle.tables.specs.Tables.{Tables, nodesOf, enough, lengths, checkNeeds, tablesOf}
 use Rattle.tables.specs.Refused.{given}
 use Rattle.tables.specs.Fitting.{Consistent, Fits}
-use Rattle.tables.specs.Keeping.{Kept}
+use Rattle.tables.specs.Keeping.{Kept, KeptVisited}
 use Rattle.audit.specs.declared.answer.Audit.{Audit}
 use Rattle.audit.specs.declared.answer.Audit.the-variants.{Fits as Yes, Unfit as No, Refused}
 
@@ -25,7 +25,7 @@ auditOutcome (Refused k) = Outcome.refused k
 
 -- The number of the first of the tests 1 to 4 that applies, if one does. "Test 3 covers the tables that the call in hand is lent": all but the news list.
 abbrev pub auditRefusal : Graph → Tables → Option ℕ
-auditRefusal g t = first (lent (given g (enough (checkNeeds (g .n) (g .limit) (lengths t))) (t .marks) (t .status)))
+auditRefusal g t = first (lent (given g (enough (checkNeeds (g .n) (nodesOf g) (g .limit) (lengths t))) false (t .marks) (t .status)))
 
 -- The tables after a check that left these in the queue and in the visited marks.
 abbrev pub afterCheck : Tables → List ℕ → List ℕ → Tables
@@ -39,7 +39,7 @@ pub record Audited (g : Graph) (t : Tables) (answer : Audit) (queue′ visited�
   -- Else a yes exactly where some legal history gives these tables, and a no exactly where none does.
   pub yes : auditRefusal g t ≡ none → (auditOutcome answer ≡ Outcome.accepted true) ↔ Fits g t
   pub no : auditRefusal g t ≡ none → (auditOutcome answer ≡ Outcome.accepted false) ↔ (Fits g t → ⊥)
-  -- The work tables that it may write, below n alone; "after a yes" they "still fit", for each history that gave them.
-  pub queue : Kept (g .n) (t .queue) queue′
-  pub visited : Kept (g .n) (t .visited) visited′
+  -- The work tables that it may write, below the needed length alone; "after a yes" they "still fit", for each history that gave them.
+  pub queue : Kept (nodesOf g) (t .queue) queue′
+  pub visited : KeptVisited (nodesOf g) (t .visited) visited′
   pub still : auditOutcome answer ≡ Outcome.accepted true → (h : History) → Consistent h g t → Consistent h g (afterCheck t queue′ visited′)

@@ -8,15 +8,22 @@ use lib.Dec.{eqb, leb, ltb}
 use lib.ListN.{getD}
 use Rattle.gid.specs.Statuses.{statusUnseen, statusOpen, statusUnknown, statusLive, statusDead}
 use Rattle.gid.specs.Successors.{noSuccessor}
+use Rattle.gid.specs.Systems.{Arcs}
 use Rattle.tables.specs.Tables.{Tables}
 use Rattle.tables.specs.Marks.{hasNamed, hasTerminal}
-use Rattle.tables.specs.Work.{ListRule, marked}
+use Rattle.tables.specs.Work.{ListRule}
+use Rattle.tables.specs.Visits.{marked}
+use Rattle.search.specs.declared.spread.Mode.{Mode}
 use Rattle.search.specs.declared.spread.Mode.the-variants.{Tree, Claimed}
-use Rattle.search.specs.Spreading.{Arcs, arcs, allowed, Reached}
+use Rattle.search.specs.Spreading.{chains, into, allowed, Reached}
 
 -- A test passes at each index below n.
 abbrev pub All : ℕ → (ℕ → Bool) → Type 0
 All n f = (i : ℕ) → i < n → f i ≡ true
+
+-- It passes at the index i, which is below n.
+abbrev pub Passes : ℕ → (ℕ → Bool) → ℕ → Type 0
+Passes n f i = (i < n) × (f i ≡ true)
 
 -- A state with this byte of marks (1 named, 2 terminal, 4 closed) can have this status.
 unfoldable pub suits : ℕ → ℕ → Bool
@@ -65,14 +72,17 @@ startsAt verdict status marks s = starts verdict (getD status s 0) (getD marks s
 unfoldable pub covered : ℕ → (status visited : List ℕ) → ℕ → Bool
 covered verdict status visited s = not (eqb (getD status s 0) verdict) || marked visited s
 
--- The state w is reached backwards from one of the starts below k.
-abbrev pub Backed : ℕ → Arcs → (ℕ → ℕ → Bool) → (ℕ → Bool) → ℕ → Type 0
-Backed k a ok start w = (u : ℕ) × (u < k) × (start u ≡ true) × Reached a ok u w
+-- The state s is reached backwards, by sources that a mode allows, from one where the verdict starts.
+abbrev pub Backed : ℕ → Arcs → Mode → ℕ → (status marks successor : List ℕ) → ℕ → Type 0
+Backed n Arc mode verdict status marks successor s = Reached n Arc (allowed mode status successor) (Passes n (startsAt verdict status marks)) s
 
 -- So is each state with the verdict.
-abbrev pub Backs : Arcs → (ℕ → ℕ → Bool) → ℕ → (status marks : List ℕ) → Type 0
-Backs a ok verdict status marks =
-    (s : ℕ) → s < a .n → getD status s 0 ≡ verdict → Backed (a .n) a ok (startsAt verdict status marks) s
+abbrev pub Backs : ℕ → Arcs → Mode → ℕ → (status marks successor : List ℕ) → Type 0
+Backs n Arc mode verdict status marks successor = (s : ℕ) → s < n → getD status s 0 ≡ verdict → Backed n Arc mode verdict status marks successor s
+
+-- The first m steps, as walks over those into each of n states meet them.
+abbrev pub stepsInto : ℕ → ℕ → Tables → Arcs
+stepsInto n m t = into (chains n m (t .from) (t .inHead) (t .inNext))
 
 -- The facts, of tables with n states and m listed steps.
 pub record TableFacts (n m : ℕ) (t : Tables) : Type 0 where
@@ -81,6 +91,6 @@ pub record TableFacts (n m : ℕ) (t : Tables) : Type 0 where
   pub into : ListRule n m (t .to) (t .inHead) (t .inNext)
   pub outOf : ListRule n m (t .from) (t .outHead) (t .outNext)
   -- A live state reaches a terminal one through live states.
-  pub lives : Backs (arcs n m (t .from) (t .inHead) (t .inNext)) (allowed Claimed (t .status) (t .successor)) statusLive (t .status) (t .marks)
+  pub lives : Backs n (stepsInto n m t) Claimed statusLive (t .status) (t .marks) (t .successor)
   -- The successors of an unknown state lead to an open one.
-  pub escapes : Backs (arcs n m (t .from) (t .inHead) (t .inNext)) (allowed Tree (t .status) (t .successor)) statusUnknown (t .status) (t .marks)
+  pub escapes : Backs n (stepsInto n m t) Tree statusUnknown (t .status) (t .marks) (t .successor)

@@ -7,13 +7,16 @@ use mathlib.Core.List.{List}
 use Prim.Native.Nat.{ℕ, _+_, _<_}
 use lib.ListN.{getD, set}
 use Rattle.gid.specs.Statuses.{statusUnknown, statusLive}
+use Rattle.gid.specs.Systems.{Arcs}
 use Rattle.tables.specs.Tables.{Tables}
-use Rattle.tables.specs.Work.{ListRule, NoneVisited, lastBefore, marked}
+use Rattle.tables.specs.Work.{ListRule, lastBefore}
+use Rattle.tables.specs.Visits.{NoneVisited, marked}
+use Rattle.tables.specs.Keeping.{Kept, KeptVisited}
 use Rattle.search.specs.declared.spread.Mode.the-variants.{Tree, Claimed}
 use Rattle.search.specs.declared.spread.Span.{Span}
-use Rattle.tables.specs.Keeping.{Kept}
-use Rattle.search.specs.Spreading.{Arcs, allowed, Spread}
-use Rattle.audit.specs.Facts.{Backed, Backs, TableFacts}
+use Rattle.search.specs.Spreading.{Before, Queued}
+use Rattle.search.specs.Offering.{Admitted}
+use Rattle.audit.specs.Facts.{Passes, Backs, TableFacts}
 
 -- The ends of the first m steps are states.
 abbrev pub Below : ℕ → ℕ → List ℕ → Type 0
@@ -45,32 +48,34 @@ pub record ListFits (n m : ℕ) (ends head next last last′ : List ℕ) (r : Bo
   pub exact : (r ≡ true) ↔ ListRule n m ends head next
   pub kept : Kept n last last′
 
--- A spread from u, where u is a start that is not visited.
-pub data Started (a : Arcs) (ok : ℕ → ℕ → Bool) (start : Bool) (u : ℕ) (visited queue visited′ queue′ : List ℕ) : Type 0 where
-  passed : (start ≡ true → marked visited u ≡ true) → visited′ ≡ visited → queue′ ≡ queue → Started a ok start u visited queue visited′ queue′
-  spreads : (r : Span) → start ≡ true → Spread a ok u visited queue visited′ queue′ r → Started a ok start u visited queue visited′ queue′
+-- A start is admitted, and any other state passed over.
+pub data Started (start : Bool) (s : ℕ) (visited queue : List ℕ) (span : Span) (visited′ queue′ : List ℕ) (span′ : Span) : Type 0 where
+  passed : start ≡ false → visited′ ≡ visited → queue′ ≡ queue → span′ ≡ span → Started start s visited queue span visited′ queue′ span′
+  admitted : start ≡ true → Admitted s visited queue span visited′ queue′ span′ → Started start s visited queue span visited′ queue′ span′
 
--- Exactly what is reached from a start below k is visited.
-pub record Gathered (k : ℕ) (a : Arcs) (ok : ℕ → ℕ → Bool) (start : ℕ → Bool) (visited queue visited′ queue′ : List ℕ) : Type 0 where
-  pub exact : (w : ℕ) → w < a .n → (marked visited′ w ≡ true) ↔ Backed k a ok start w
-  pub visits : Kept (a .n) visited visited′
-  pub queues : Kept (a .n) queue queue′
+-- Exactly the starts below k, of n states, are queued and visited.
+pub record Gathered (k n : ℕ) (start : ℕ → Bool) (visited queue visited′ queue′ : List ℕ) (span : Span) : Type 0 where
+  pub queued : Queued n visited′ queue′ span
+  pub exact : (w : ℕ) → Before queue′ (span .len) w ↔ Passes k start w
+  pub only : (w : ℕ) → w < n → marked visited′ w ≡ true → Passes k start w
+  pub visits : KeptVisited n visited visited′
+  pub queues : Kept n queue queue′
 
 -- Whether a claim P holds. No state is left visited.
 pub record Answered (n : ℕ) (P : Type 0) (visited queue visited′ queue′ : List ℕ) (r : Bool) : Type 0 where
   pub exact : (r ≡ true) ↔ P
   pub none : NoneVisited n visited′
-  pub visits : Kept n visited visited′
+  pub visits : KeptVisited n visited visited′
   pub queues : Kept n queue queue′
 
 -- What the statuses claim: that each live state is backed by a terminal one, and each unknown state by an open one.
-abbrev pub Claims : Arcs → (status marks successor : List ℕ) → Type 0
-Claims a status marks successor =
-    Backs a (allowed Claimed status successor) statusLive status marks × Backs a (allowed Tree status successor) statusUnknown status marks
+abbrev pub Claims : ℕ → Arcs → (status marks successor : List ℕ) → Type 0
+Claims n Arc status marks successor =
+    Backs n Arc Claimed statusLive status marks successor × Backs n Arc Tree statusUnknown status marks successor
 
 -- Whether the facts hold. After a yes no state is marked visited.
 pub record Judged (n m : ℕ) (t : Tables) (r : Bool) (queue′ visited′ : List ℕ) : Type 0 where
   pub exact : (r ≡ true) ↔ TableFacts n m t
   pub none : r ≡ true → NoneVisited n visited′
-  pub visits : Kept n (t .visited) visited′
+  pub visits : KeptVisited n (t .visited) visited′
   pub queues : Kept n (t .queue) queue′

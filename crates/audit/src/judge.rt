@@ -23,8 +23,8 @@ pub fn judge(
     in_next: &[u16],
     out_next: &[u16],
 ) -> bool
-    requires { ⌜ (n < 65536) × (steps < 65535) ⌝ }
-    requires { ⌜ Long n steps (tablesOf (now status) (now marks) (now from) (now to) (now successor) [] (now «in_head») (now «out_head») (now queue) (now visited) (now «in_next») (now «out_next»)) ⌝ }
+    requires { ⌜ (0 < n) × (n < 65536) × (steps < 65535) ⌝ }
+    requires { ⌜ Long n n steps (tablesOf (now status) (now marks) (now from) (now to) (now successor) [] (now «in_head») (now «out_head») (now queue) (now visited) (now «in_next») (now «out_next»)) ⌝ }
     ensures { λ r. ⌜ ((news : List ℕ) → Judged n steps (tablesOf (now (status .entry)) (now (marks .entry)) (now (from .entry)) (now (to .entry)) (now (successor .entry)) news (now («in_head» .entry)) (now («out_head» .entry)) (now (queue .entry)) (now (visited .entry)) (now («in_next» .entry)) (now («out_next» .entry))) r (now (queue .exit)) (now (visited .exit))) ⌝ }
 {
     if states_fit(

@@ -51,7 +51,7 @@ pub fn audit(
         in_next: in_next.len(),
         out_next: out_next.len(),
     };
-    let refused = graph.lent(lengths.enough_to_check(n, limit));
+    let refused = graph.lent(lengths.enough_to_check(n, graph.nodes(), limit));
     if refused != 0 {
         return Audit::Refused(refused);
     }

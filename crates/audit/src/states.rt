@@ -4,8 +4,9 @@ ghost use mathlib.Core.Logic.{_↔_};
 ghost use mathlib.Core.Bool.{true};
 ghost use Prim.Native.Nat.{_≤_, _<_};
 ghost use lib.ListN.{length};
+ghost use Rattle.tables.specs.Tables.{visitedLength};
+ghost use Rattle.tables.specs.Visits.{HasMark};
 ghost use Rattle.audit.specs.Facts.{All, suits, mentioned, successorFits, stateFits};
-use search::visits::is_visited;
 use tables::DEAD;
 use tables::LIVE;
 use tables::NO_SUCCESSOR;
@@ -13,6 +14,7 @@ use tables::OPEN;
 use tables::UNKNOWN;
 use tables::UNSEEN;
 use tables::has_named;
+use tables::is_visited;
 use tables::wide;
 
 // The bytes of a state that is named, with no other mark, and of one that is closed besides.
@@ -34,7 +36,7 @@ pub fn states_fit(
     out_head: &[u16],
     visited: &[u16],
 ) -> bool
-    requires { ⌜ (n ≤ length (now status)) × (n ≤ length (now marks)) × (steps ≤ length (now from)) × (n ≤ length (now successor)) × (n ≤ length (now «in_head»)) × (n ≤ length (now «out_head»)) × (n ≤ length (now visited)) ⌝ }
+    requires { ⌜ (n ≤ length (now status)) × (n ≤ length (now marks)) × (steps ≤ length (now from)) × (n ≤ length (now successor)) × (n ≤ length (now «in_head»)) × (n ≤ length (now «out_head»)) × (visitedLength n ≤ length (now visited)) ⌝ }
     ensures { λ r. ⌜ (r ≡ true) ↔ All n (stateFits steps (now (status .entry)) (now (marks .entry)) (now (from .entry)) (now (successor .entry)) (now («in_head» .entry)) (now («out_head» .entry)) (now (visited .entry))) ⌝ }
 {
     let mut s = 0;
@@ -69,7 +71,7 @@ fn state_fits(
     out_head: &[u16],
     visited: &[u16],
 ) -> bool
-    requires { ⌜ (s < length (now status)) × (s < length (now marks)) × (steps ≤ length (now from)) × (s < length (now successor)) × (s < length (now «in_head»)) × (s < length (now «out_head»)) × (s < length (now visited)) ⌝ }
+    requires { ⌜ (s < length (now status)) × (s < length (now marks)) × (steps ≤ length (now from)) × (s < length (now successor)) × (s < length (now «in_head»)) × (s < length (now «out_head»)) × HasMark (now visited) s ⌝ }
     ensures { λ r. ⌜ r ≡ stateFits steps (now (status .entry)) (now (marks .entry)) (now (from .entry)) (now (successor .entry)) (now («in_head» .entry)) (now («out_head» .entry)) (now (visited .entry)) s ⌝ }
 {
     if is_visited(visited, s) {

@@ -2,17 +2,21 @@
 ghost use mathlib.Core.Path.{_≡_};
 ghost use mathlib.Core.List.{List};
 ghost use mathlib.Core.Option.{some};
-ghost use Prim.Native.Nat.{ℕ, _+_};
+ghost use Prim.Native.Nat.{ℕ, _+_, _≤_};
 ghost use mathlib.Core.Bool.{cond};
 ghost use lib.Dec.{leb};
 ghost use lib.ListN.{length};
+ghost use Rattle.gid.specs.Refusals.{maxStates};
+ghost use Rattle.gid.specs.Outcomes.{byNumber};
 ghost use Rattle.tables.specs.Refused.{statusAnswer};
 ghost use Rattle.tables.specs.Tables.{tablesOf};
+ghost use Rattle.engine.specs.Answers.{answerNumber, newsCount};
 ghost use Rattle.writer.specs.Answering.{writeAnswer, bufferAfter};
 ghost use Rattle.capi.specs.Calls.{kindBy, kindRefusal, Called, codeBy, AuditCalled, placeAfter};
 use audit::Audit;
 use engine::Answer;
 use engine::Engine;
+use gid::Edge;
 use gid::Update;
 use record::MALFORMED;
 use tables::Graph;
@@ -34,8 +38,10 @@ fn update_of(kind: u8, first: usize, second: usize) -> Kind
 {
     match kind {
         b'E' => Kind::Known(Update::Step {
-            from: first,
-            to: second,
+            edge: Edge {
+                from: first,
+                to: second,
+            },
         }),
         b'T' => Kind::Known(Update::Terminal { state: first }),
         b'C' => Kind::Known(Update::Close { state: first }),
@@ -47,7 +53,7 @@ fn update_of(kind: u8, first: usize, second: usize) -> Kind
 fn refused_kind(graph: Graph, lengths: Lengths) -> u8
     ensures { λ r. ⌜ kindRefusal graph lengths ≡ some r ⌝ }
 {
-    let lent = graph.lent(lengths.enough(graph.n, graph.limit));
+    let lent = graph.lent(lengths.enough(graph.n, graph.nodes(), graph.limit));
     if lent != 0 {
         return lent;
     }
@@ -127,11 +133,19 @@ pub extern "C" fn radvoinis_update(
             let graph = done.engine.graph;
             *steps = graph.steps;
             let answer = done.answer;
-            match answer {
-                Answer::Accepted(count) => count as u32,
-                Answer::Refused(number) => REFUSED + number as u32,
-            }
+            answer_code(answer)
         }
+    }
+}
+
+// The number of news, or that of a refusal.
+fn answer_code(answer: Answer) -> u32
+    requires { ⌜ newsCount answer ≤ maxStates ⌝ }
+    ensures { λ r. ⌜ r ≡ codeBy (λ k. k) (byNumber (answerNumber answer) (newsCount answer)) ⌝ }
+{
+    match answer {
+        Answer::Accepted(count) => count as u32,
+        Answer::Refused(number) => REFUSED + number as u32,
     }
 }
 

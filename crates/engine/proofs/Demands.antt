@@ -18,7 +18,7 @@ use Rattle.gid.proofs.Deadness.{live-stays, dead-stays}
 use Rattle.gid.proofs.Statuses.{status-live, status-dead, status-dead-by-reach}
 use Rattle.gid.proofs.News.{news-exact}
 use Rattle.tables.specs.declared.Graph.{Graph}
-use Rattle.tables.specs.Tables.{Tables, enough, needs, lengths}
+use Rattle.tables.specs.Tables.{Tables, lengths, longEnough}
 use Rattle.tables.specs.Refused.{refusalOn}
 use Rattle.tables.specs.Fitting.{Checked, Consistent, Fresh}
 use Rattle.engine.specs.declared.Answer.{Answer}
@@ -26,14 +26,14 @@ use Rattle.engine.specs.declared.Answer.the-variants.{Accepted}
 use Rattle.engine.specs.Answers.{answerNumber, newsOf}
 use Rattle.engine.specs.Promise.{AcceptedUpdate, Promise, Sendable}
 use Rattle.engine.specs.Runs.{Run, Agree}
-use Rattle.engine.proofs.Running.{was-accepted, Sound, sound, sound-checked, not-refused, unclosed, same-states}
+use Rattle.engine.proofs.Running.{was-accepted, Sound, sound, sound-checked, not-refused, unclosed}
 use Rattle.engine.proofs.Twins.{agree}
 
 -- Demand 1. "In any call of a run from fresh tables (first or later, with the state value that the run has there), n and the step limit being in bounds, an update with its states in range and its first state not closed is accepted, if the tables are long enough and, for a step, the step list has a free place. On any tables, every update to which a number of document 01 applies gets the first such number, an empty news list, and all tables as before."
 pub demand-1 :
     ((g₀ g g′ : Graph) (t₀ t t₁ t′ : Tables) (xs : List Update) (h : History) (a : Answer) →
     Fresh g₀ t₀ → Run g₀ t₀ xs h g t → Checked g t t₁ →
-    0 < g .n → g .n ≤ maxStates → 0 < g .limit → g .limit ≤ maxSteps → enough (needs (g .n) (g .limit) (lengths t₁)) ≡ true →
+    0 < g .n → g .n ≤ maxStates → 0 < g .limit → g .limit ≤ maxSteps → longEnough g t₁ ≡ true →
     (x : Update) → Sendable (g .n) (g .limit) (g .steps) x → (IsClosed h (source x) → ⊥) →
     Promise g x t₁ g′ a t′ → answerNumber a ≡ none) ×
     ((g g′ : Graph) (t t′ : Tables) (a : Answer) (x : Update) →
@@ -68,7 +68,7 @@ demand-2 {g₀ = g₀} {g = g} {g′ = g′} {t₀ = t₀} {t₁ = t₁} {t′ =
     legal = (s₁ .legal, unclosed s₁ x (a .0))
 
     statuses : (s : ℕ) → s < g .n → getD (t′ .status) s 0 ≡ status (x ∷ h) s
-    statuses s q = fits .0 .status s (rw (a .1 .graph, same-states g x) q)
+    statuses s q = fits .0 .status s (rw (a .1 .graph) q)
 
     settled : (s : ℕ) → List·Memᴰ s (newsOf (Accepted k) (t′ .news)) → (getD (t′ .status) s 0 ≡ statusLive) ⊎ (getD (t′ .status) s 0 ≡ statusDead)
     settled s m =

@@ -1,13 +1,11 @@
 -- The proof that the engine keeps its promise.
 pub mod Acting
 pub mod Naming
-pub mod Reviving
 pub mod Settlement
 pub mod Listing
+pub mod Preparing
 pub mod Sending
-pub mod ClosingFacts
-pub mod ClosingNear
-pub mod ClosingSweep
+pub mod Reviving
 pub mod Closing
 pub mod Fitting
 pub mod Keeping

@@ -2,57 +2,53 @@
 -- Assumes nothing.
 use mathlib.Core.Path.{_≡_, subst}
 use mathlib.Core.Logic.{inl, inr, ⊎-elim}
-use mathlib.Core.List.{List, _∷_, List·Memᴰ·cases-cons}
+use mathlib.Core.List.{List, [], _∷_, map, map-append, append-nil, List·Memᴰ·cases-cons}
 use Prim.Native.Nat.{ℕ, _+_, _<_, _≤_}
 use native.Mathlib.Omega.{arith}
 use native.Mathlib.Numerals.{add-one}
-use lib.ListN.{length, set, take, length-append}
-use lib.Seq.{take-suc-set, getD-set-same, getD-set-other}
+use lib.ListN.{length, getD, set, take, length-append}
+use lib.Seq.{sets, take-suc-set, getD-set-same, getD-set-other}
+use Rattle.gid.specs.declared.Edge.{Edge}
 use Rattle.gid.specs.declared.Update.{Update}
 use Rattle.gid.specs.declared.Update.the-variants.{Step, Terminal, Close}
 use Rattle.gid.specs.Updates.{Mentions}
-use Rattle.gid.specs.Histories.{History, IsNamed}
+use Rattle.gid.specs.Histories.{History, IsNamed, added, listed}
 use Rattle.tables.specs.declared.Graph.{Graph}
 use Rattle.tables.specs.Work.{ListRule}
-use Rattle.tables.specs.Fitting.{sources, targets}
+use Rattle.tables.specs.Listing.{fromAfter, toAfter, graphAfter}
+use Rattle.tables.proofs.Listed.{ListsSteps}
 use Rattle.adjacency.specs.Walks.{Pushed}
 use Rattle.adjacency.proofs.Walks.{push-keeps}
-use Rattle.tables.specs.Listing.{fromAfter, toAfter, graphAfter}
-use Rattle.engine.proofs.Naming.{InRange}
+use Rattle.engine.specs.Preparing.{InRange, Free}
 
 -- the states of the history with x are below n
 pub range-after : {h : History} (n : ℕ) (x : Update) → InRange n x → ((s : ℕ) → IsNamed h s → s < n) → (s : ℕ) → IsNamed (x ∷ h) s → s < n
 range-after {h} n x r c s m = ⊎-elim (λ e. newest x r (subst (λ (y : Update). Mentions y s) e (m .2))) (λ q. c s (m .0, q, m .2)) (List·Memᴰ·cases-cons (m .1))
   where
     newest : (y : Update) → InRange n y → Mentions y s → s < n
-    newest (Step u v) q (inl e) = subst (λ (a : ℕ). a < n) e (q .0)
-    newest (Step u v) q (inr e) = subst (λ (a : ℕ). a < n) e (q .1)
-    newest (Terminal u) q e = subst (λ (a : ℕ). a < n) e q
-    newest (Close u) q e = subst (λ (a : ℕ). a < n) e q
+    newest (Step e) q (inl z) = subst (λ (a : ℕ). a < n) z (q .0)
+    newest (Step e) q (inr z) = subst (λ (a : ℕ). a < n) z (q .1)
+    newest (Terminal u) q z = subst (λ (a : ℕ). a < n) z q
+    newest (Close u) q z = subst (λ (a : ℕ). a < n) z q
 
-pub steps-after : (h : History) (g : Graph) (x : Update) → g .steps ≡ length (sources h) → graphAfter g x .steps ≡ length (sources (x ∷ h))
-unfolding sources
-steps-after h g (Step u v) e = rw (length-append, e)
-steps-after h g (Terminal u) e = e
-steps-after h g (Close u) e = e
+-- what an update adds, stored behind m entries
+stored : (f : Edge → ℕ) (h : History) (x : Update) (m : ℕ) (l : List ℕ) → Free m x l → take m l ≡ map f (listed h) → take (m + length (added x)) (sets l m (map f (added x))) ≡ map f (listed (x ∷ h))
+unfolding listed
+stored f h (Step e) m l r q = rw (map-append f (listed h) (e ∷ []), add-one m, take-suc-set l m (f e) r, q)
+stored f h (Terminal u) m l r q = let z : m + 0 ≡ m = omega arith in rw (z, append-nil (listed h)) q
+stored f h (Close u) m l r q = let z : m + 0 ≡ m = omega arith in rw (z, append-nil (listed h)) q
 
--- there is a free place for a step
-abbrev pub Free : ℕ → Update → List ℕ → Type 0
-Free m (Step u v) l = m < length l
-Free m (Terminal u) l = Unit {0}
-Free m (Close u) l = Unit {0}
-
-pub from-after : (h : History) (g : Graph) (x : Update) (from : List ℕ) → Free (g .steps) x from → take (g .steps) from ≡ sources h → take (graphAfter g x .steps) (fromAfter (g .steps) x from) ≡ sources (x ∷ h)
-unfolding sources
-from-after h g (Step u v) from f e = rw (add-one (g .steps), take-suc-set from (g .steps) u f, e)
-from-after h g (Terminal u) from f e = e
-from-after h g (Close u) from f e = e
-
-pub to-after : (h : History) (g : Graph) (x : Update) (to : List ℕ) → Free (g .steps) x to → take (g .steps) to ≡ targets h → take (graphAfter g x .steps) (toAfter (g .steps) x to) ≡ targets (x ∷ h)
-unfolding targets
-to-after h g (Step u v) to f e = rw (add-one (g .steps), take-suc-set to (g .steps) v f, e)
-to-after h g (Terminal u) to f e = e
-to-after h g (Close u) to f e = e
+-- The step list of the history with x.
+pub lists-after :
+    {h : History} (g : Graph) (x : Update) {from to : List ℕ} → Free (g .steps) x from → Free (g .steps) x to → ListsSteps h (g .steps) from to →
+    ListsSteps (x ∷ h) (graphAfter g x .steps) (fromAfter (g .steps) x from) (toAfter (g .steps) x to)
+unfolding listed
+lists-after {h} g x {from} {to} a b l =
+    record {
+      count = rw (length-append, l .count);
+      froms = stored (λ (e : Edge). e .from) h x (g .steps) from a (l .froms);
+      tos = stored (λ (e : Edge). e .to) h x (g .steps) to b (l .tos);
+    }
 
 -- A step that is stored behind the m listed ones and put in front of the steps at its end keeps the list rule.
 pub rule-after : {n m : ℕ} {ends head next head′ next′ : List ℕ} (v : ℕ) → ListRule n m ends head next → Pushed head next v m head′ next′ → n ≤ length head → m < length next → m < length ends → v < n → ListRule n (m + 1) (set ends m v) head′ next′

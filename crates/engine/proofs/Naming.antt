@@ -18,7 +18,8 @@ use Rattle.gid.specs.Statuses.{isNamed, isTerminal, isClosed, statusUnseen, sta
 use Rattle.tables.specs.Marks.{withNamed, withTerminal, withClosed}
 use Rattle.tables.specs.Fitting.{marksOf}
 use Rattle.tables.proofs.Bits.{bits, byte}
-use Rattle.engine.specs.Effects.{markAt, marksAfter, namedByte}
+use Rattle.engine.specs.Effects.{markAt, marksAfter}
+use Rattle.engine.specs.Preparing.{namedByte, InRange}
 
 -- an entry after a store at u
 pub set-at : (l : List ℕ) (u v : ℕ) → u < length l → (s : ℕ) → getD (set l u v) s 0 ≡ cond (eqb u s) v (getD l s 0)
@@ -61,19 +62,13 @@ either-first true false c = refl
 either-first false true c = refl
 either-first false false c = refl
 
--- the states of an update are below n
-abbrev pub InRange : ℕ → Update → Type 0
-InRange n (Step u v) = (u < n) × (v < n)
-InRange n (Terminal u) = u < n
-InRange n (Close u) = u < n
-
 -- "these marks": after the update they are those of the history with it
 pub marks-after : (h : History) (x : Update) (marks : List ℕ) (n : ℕ) → n ≤ length marks → InRange n x → ((s : ℕ) → s < n → getD marks s 0 ≡ marksOf h s) → (s : ℕ) → s < n → getD (marksAfter x marks) s 0 ≡ marksOf (x ∷ h) s
 unfolding bits marksOf isNamed isTerminal isClosed
-marks-after h (Step u v) marks n l r g s k =
-    let first = mark-named marks n u l (r .0) (isNamed h) (isTerminal h) (isClosed h) g in
-    mark-named (markAt withNamed u marks) n v (rw length-set l) (r .1) (λ q. eqb u q || isNamed h q) (isTerminal h) (isClosed h) first s k ∙
-    ap (λ (b : Bool). bits b (isTerminal h s) (isClosed h s)) (either-first (eqb u s) (eqb v s) (isNamed h s))
+marks-after h (Step e) marks n l r g s k =
+    let first = mark-named marks n (e .from) l (r .0) (isNamed h) (isTerminal h) (isClosed h) g in
+    mark-named (markAt withNamed (e .from) marks) n (e .to) (rw length-set l) (r .1) (λ q. eqb (e .from) q || isNamed h q) (isTerminal h) (isClosed h) first s k ∙
+    ap (λ (b : Bool). bits b (isTerminal h s) (isClosed h s)) (either-first (eqb (e .from) s) (eqb (e .to) s) (isNamed h s))
 marks-after h (Terminal u) marks n l r g s k =
     let first = mark-named marks n u l r (isNamed h) (isTerminal h) (isClosed h) g in
     mark-terminal (markAt withNamed u marks) n u (rw length-set l) r (λ q. eqb u q || isNamed h q) (isTerminal h) (isClosed h) first s k

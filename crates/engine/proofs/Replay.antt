@@ -7,36 +7,29 @@ use mathlib.Core.Option.{Option, some, none}
 use Prim.Native.Nat.{ℕ, _<_}
 use native.Mathlib.Omega.{arith}
 use lib.Dec.{leb, eqb}
-use lib.ListN.{length, getD, length-append}
+use lib.ListN.{length, getD}
 use borrow.Author.Tests.{leb-false}
 use Rattle.gid.specs.declared.Update.{Update}
 use Rattle.gid.specs.declared.Update.the-variants.{Step, Terminal, Close}
-use Rattle.gid.specs.Histories.{History}
+use Rattle.gid.specs.Histories.{History, listed}
 use Rattle.gid.specs.Statuses.{isClosed, isDead, status, statusDead}
 use Rattle.gid.specs.News.{news}
 use Rattle.gid.specs.Refusals.{Rule, first, lent, sent, refusal}
-use Rattle.gid.specs.Outcomes.{accepted, byNumber, countSteps, givenAfter, outcome, after}
+use Rattle.gid.specs.Outcomes.{accepted, byNumber, givenAfter, outcome, after}
 use Rattle.gid.proofs.Decide.{same-test, decides-eq}
 use Rattle.gid.proofs.Tests.{decides-dead}
 use Rattle.gid.proofs.Statuses.{status-dead-by-reach}
 use Rattle.tables.specs.declared.Graph.{Graph}
-use Rattle.tables.specs.Tables.{Tables, enough, needs, lengths}
+use Rattle.tables.specs.Tables.{Tables, longEnough}
 use Rattle.tables.specs.Marks.{hasClosed}
-use Rattle.tables.specs.Refused.{refusalOn, given}
-use Rattle.tables.specs.Fitting.{sources, Consistent}
+use Rattle.tables.specs.Refused.{isFull, refusalOn, given}
+use Rattle.tables.specs.Fitting.{Consistent}
 use Rattle.tables.proofs.Bits.{closed-bit}
 use Rattle.tables.proofs.Refusing.{neither}
 use Rattle.engine.specs.declared.Answer.{Answer}
 use Rattle.engine.specs.Answers.{answerNumber, newsOf, answerOutcome}
 use Rattle.engine.specs.Promise.{Promise}
 use Rattle.engine.proofs.Running.{Sound, sound-accepted}
-
-pub count-sources : (h : History) → countSteps h ≡ length (sources h)
-unfolding sources
-count-sources [] = refl
-count-sources (Step u v ∷ h) = rw (length-append (sources h) (u ∷ []), count-sources h) (omega arith)
-count-sources (Terminal u ∷ h) = count-sources h
-count-sources (Close u ∷ h) = count-sources h
 
 -- a rule with its test
 abbrev rule : Bool → ℕ → Rule
@@ -56,13 +49,13 @@ module _ {h : History} {g : Graph} {t : Tables} (c : Consistent h g t) where
       same-test (eqb (getD (t .status) u 0) statusDead) (isDead h u) (decides-eq (getD (t .status) u 0) statusDead) (decides-dead h u)
       (λ e. status-dead-by-reach h u .0 (sym (c .status u r) ∙ e)) (λ d. c .status u r ∙ status-dead-by-reach h u .1 d)
 
-  sent-same : (long : Bool) (x : Update) → first (sent (given g long (t .marks) (t .status)) x) ≡ first (sent (givenAfter (g .n) (g .limit) h) x)
+  sent-same : (long : Bool) (x : Update) → first (sent (given g long (isFull g) (t .marks) (t .status)) x) ≡ first (sent (givenAfter (g .n) (g .limit) h) x)
   unfolding givenAfter
-  sent-same long (Step u v) =
-      guarded (leb (g .n) u || leb (g .n) v) (leb (g .n) u || leb (g .n) v) refl
-      (rule (hasClosed (getD (t .marks) u 0)) 6 ∷ rule (eqb (getD (t .status) u 0) statusDead) 8 ∷ rule (eqb (g .steps) (g .limit)) 9 ∷ [])
-      (rule (isClosed h u) 6 ∷ rule (isDead h u) 8 ∷ rule (eqb (countSteps h) (g .limit)) 9 ∷ [])
-      (λ e. let r = leb-false (g .n) u (neither (leb (g .n) u) (leb (g .n) v) e .0) in rw (closed-same u r, dead-same u r, c .steps, count-sources h))
+  sent-same long (Step d) =
+      guarded (leb (g .n) (d .from) || leb (g .n) (d .to)) (leb (g .n) (d .from) || leb (g .n) (d .to)) refl
+      (rule (hasClosed (getD (t .marks) (d .from) 0)) 6 ∷ rule (eqb (getD (t .status) (d .from) 0) statusDead) 8 ∷ rule (isFull g) 9 ∷ [])
+      (rule (isClosed h (d .from)) 6 ∷ rule (isDead h (d .from)) 8 ∷ rule (eqb (length (listed h)) (g .limit)) 9 ∷ [])
+      (λ e. let r = leb-false (g .n) (d .from) (neither (leb (g .n) (d .from)) (leb (g .n) (d .to)) e .0) in rw (closed-same (d .from) r, dead-same (d .from) r, c .steps))
   sent-same long (Terminal u) =
       guarded (leb (g .n) u) (leb (g .n) u) refl (rule (hasClosed (getD (t .marks) u 0)) 6 ∷ rule (eqb (getD (t .status) u 0) statusDead) 8 ∷ []) (rule (isClosed h u) 6 ∷ rule (isDead h u) 8 ∷ [])
       (λ e. let r = leb-false (g .n) u e in rw (closed-same u r, dead-same u r))
@@ -71,14 +64,14 @@ module _ {h : History} {g : Graph} {t : Tables} (c : Consistent h g t) where
       (λ e. rw (closed-same u (leb-false (g .n) u e)))
 
   -- The number on the tables is the one by the history.
-  pub same-refusal : enough (needs (g .n) (g .limit) (lengths t)) ≡ true → (x : Update) → refusalOn g t x ≡ refusal (givenAfter (g .n) (g .limit) h) x
+  pub same-refusal : longEnough g t ≡ true → (x : Update) → refusalOn g t x ≡ refusal (givenAfter (g .n) (g .limit) h) x
   unfolding refusal givenAfter
   same-refusal e x =
       append-same
-      (lent (given g (enough (needs (g .n) (g .limit) (lengths t))) (t .marks) (t .status))) (lent (givenAfter (g .n) (g .limit) h))
-      (sent (given g (enough (needs (g .n) (g .limit) (lengths t))) (t .marks) (t .status)) x) (sent (givenAfter (g .n) (g .limit) h) x)
-      (rw (e, c .steps, count-sources h))
-      (sent-same (enough (needs (g .n) (g .limit) (lengths t))) x)
+      (lent (given g (longEnough g t) (isFull g) (t .marks) (t .status))) (lent (givenAfter (g .n) (g .limit) h))
+      (sent (given g (longEnough g t) (isFull g) (t .marks) (t .status)) x) (sent (givenAfter (g .n) (g .limit) h) x)
+      (rw (e, c .steps))
+      (sent-same (longEnough g t) x)
     where
       append-same : (a a′ b b′ : List Rule) → a ≡ a′ → first b ≡ first b′ → first (a ++ b) ≡ first (a′ ++ b′)
       append-same a a′ b b′ p q = rw p (go a′)
@@ -88,7 +81,7 @@ module _ {h : History} {g : Graph} {t : Tables} (c : Consistent h g t) where
           go (r ∷ l) = ap (λ (o : Option ℕ). cond (r .applies) (some (r .number)) o) (go l)
 
 -- What the engine answers is the outcome of the definitions, and the tables are those of the history after it.
-module _ {g₀ : Graph} {t₀ : Tables} {h : History} {g g′ : Graph} {t t′ : Tables} (s : Sound g₀ t₀ h g t) (long : enough (needs (g .n) (g .limit) (lengths t)) ≡ true) (x : Update) {a : Answer} (p : Promise g x t g′ a t′) where
+module _ {g₀ : Graph} {t₀ : Tables} {h : History} {g g′ : Graph} {t t′ : Tables} (s : Sound g₀ t₀ h g t) (long : longEnough g t ≡ true) (x : Update) {a : Answer} (p : Promise g x t g′ a t′) where
   pub replay : (answerOutcome a (t′ .news) ≡ outcome (g .n) (g .limit) h x) × Sound g₀ t₀ (after (g .n) (g .limit) h x) g′ t′
   unfolding outcome after
   replay = at (refusal (givenAfter (g .n) (g .limit) h) x) refl

@@ -20,10 +20,10 @@ use Rattle.gid.proofs.Tests.{decides-closed}
 use Rattle.gid.proofs.Deadness.{dead-closed}
 use Rattle.gid.proofs.Statuses.{status-dead-by-reach}
 use Rattle.tables.specs.declared.Graph.{Graph}
-use Rattle.tables.specs.Tables.{Tables, enough, needs, lengths}
+use Rattle.tables.specs.Tables.{Tables, lengths, longEnough}
 use Rattle.tables.specs.Marks.{hasClosed}
 use Rattle.tables.specs.Listing.{graphAfter}
-use Rattle.tables.specs.Refused.{given, refusalOn}
+use Rattle.tables.specs.Refused.{isFull, given, refusalOn}
 use Rattle.tables.specs.Fitting.{Checked, Consistent, Fresh}
 use Rattle.tables.proofs.Bits.{closed-bit}
 use Rattle.tables.proofs.Keeping.{lengths-kept}
@@ -44,19 +44,9 @@ module _ {g : Graph} {x : Update} {t : Tables} {g′ : Graph} {t′ : Tables} {k
   was-refused p = let r = p .refuses k (sym (p .number)) in (sym (p .number), r .1, r .2)
 
 steps-room : (g : Graph) (x : Update) → Sendable (g .n) (g .limit) (g .steps) x → g .steps ≤ g .limit → graphAfter g x .steps ≤ g .limit
-steps-room g (Step u v) s h = omega (arith, s .2)
-steps-room g (Terminal u) s h = h
-steps-room g (Close u) s h = h
-
-pub same-states : (g : Graph) (x : Update) → graphAfter g x .n ≡ g .n
-same-states g (Step u v) = refl
-same-states g (Terminal u) = refl
-same-states g (Close u) = refl
-
-pub same-limit : (g : Graph) (x : Update) → graphAfter g x .limit ≡ g .limit
-same-limit g (Step u v) = refl
-same-limit g (Terminal u) = refl
-same-limit g (Close u) = refl
+steps-room g (Step e) s h = omega (arith, s .2)
+steps-room g (Terminal u) s h = omega arith
+steps-room g (Close u) s h = omega arith
 
 -- What holds after each call of a run: the accepted history is legal, the tables fit for it, and sizes are as they were.
 pub record Sound (g₀ : Graph) (t₀ : Tables) (h : History) (g : Graph) (t : Tables) : Type 0 where
@@ -94,10 +84,10 @@ module _ {g₀ : Graph} {t₀ : Tables} where
       record {
         legal = (s .legal, unclosed s x e);
         fits = a .fits h (s .legal) (s .fits) .0;
-        states = ap (λ (e : Graph). e .n) (a .graph) ∙ same-states g x ∙ s .states;
-        limit = ap (λ (e : Graph). e .limit) (a .graph) ∙ same-limit g x ∙ s .limit;
+        states = ap (λ (e : Graph). e .n) (a .graph) ∙ s .states;
+        limit = ap (λ (e : Graph). e .limit) (a .graph) ∙ s .limit;
         sizes = lengths-kept (a .kept) ∙ s .sizes;
-        room = rw (a .graph, same-limit g x) (steps-room g x (d .0) (s .room));
+        room = rw (a .graph) (steps-room g x (d .0) (s .room));
       }
 
   pub sound : {xs : List Update} {h : History} {g : Graph} {t : Tables} → Fresh g₀ t₀ → Run g₀ t₀ xs h g t → Sound g₀ t₀ h g t
@@ -106,24 +96,24 @@ module _ {g₀ : Graph} {t₀ : Tables} where
   sound f (refused r c x k p) = let q = was-refused p in rw (q .1, q .2) (sound-checked (sound f r) c)
 
   -- Where the tests 1 to 4 find nothing, an update in range, from a state that is not closed and, for a step, with a free place is accepted.
-  pub not-refused : {h : History} {g : Graph} {t : Tables} → Sound g₀ t₀ h g t → 0 < g .n → g .n ≤ maxStates → 0 < g .limit → g .limit ≤ maxSteps → enough (needs (g .n) (g .limit) (lengths t)) ≡ true → (x : Update) → Sendable (g .n) (g .limit) (g .steps) x → (IsClosed h (source x) → ⊥) → refusalOn g t x ≡ none
+  pub not-refused : {h : History} {g : Graph} {t : Tables} → Sound g₀ t₀ h g t → 0 < g .n → g .n ≤ maxStates → 0 < g .limit → g .limit ≤ maxSteps → longEnough g t ≡ true → (x : Update) → Sendable (g .n) (g .limit) (g .steps) x → (IsClosed h (source x) → ⊥) → refusalOn g t x ≡ none
   unfolding refusal
   not-refused {h} {g} {t} s a b c d e x r o =
-      first-none (lent (given g (enough (needs (g .n) (g .limit) (lengths t))) (t .marks) (t .status)))
-      (sent (given g (enough (needs (g .n) (g .limit) (lengths t))) (t .marks) (t .status)) x)
-      (none-applies (lent (given g (enough (needs (g .n) (g .limit) (lengths t))) (t .marks) (t .status))) (
+      first-none (lent (given g (longEnough g t) (isFull g) (t .marks) (t .status)))
+      (sent (given g (longEnough g t) (isFull g) (t .marks) (t .status)) x)
+      (none-applies (lent (given g (longEnough g t) (isFull g) (t .marks) (t .status))) (
         rw (ne-eqb (g .n) 0 (λ z. absurd (omega arith))) (le-ltb maxStates (g .n) b),
         (
           rw (ne-eqb (g .limit) 0 (λ z. absurd (omega arith))) (le-ltb maxSteps (g .limit) d),
           (rw e refl, (le-ltb (g .limit) (g .steps) (s .room), tt)),
         ),
       )) ∙
-      none-applies (sent (given g (enough (needs (g .n) (g .limit) (lengths t))) (t .marks) (t .status)) x) (sents x r o)
+      none-applies (sent (given g (longEnough g t) (isFull g) (t .marks) (t .status)) x) (sents x r o)
     where
-      sents : (y : Update) → Sendable (g .n) (g .limit) (g .steps) y → (IsClosed h (source y) → ⊥) → NoneApply (sent (given g (enough (needs (g .n) (g .limit) (lengths t))) (t .marks) (t .status)) y)
-      sents (Step u v) q n = (
-        rw (lt-leb (g .n) u (q .0)) (lt-leb (g .n) v (q .1)),
-        (unmarked (s .fits) u (q .0) n, (undead (s .fits) u (q .0) n, (ne-eqb (g .steps) (g .limit) (λ z. absurd (omega (arith, q .2))), tt))),
+      sents : (y : Update) → Sendable (g .n) (g .limit) (g .steps) y → (IsClosed h (source y) → ⊥) → NoneApply (sent (given g (longEnough g t) (isFull g) (t .marks) (t .status)) y)
+      sents (Step d) q n = (
+        rw (lt-leb (g .n) (d .from) (q .0)) (lt-leb (g .n) (d .to) (q .1)),
+        (unmarked (s .fits) (d .from) (q .0) n, (undead (s .fits) (d .from) (q .0) n, (ne-eqb (g .steps) (g .limit) (λ z. absurd (omega (arith, q .2))), tt))),
       )
       sents (Terminal u) q n = (lt-leb (g .n) u q, (unmarked (s .fits) u q n, (undead (s .fits) u q n, tt)))
       sents (Close u) q n = (lt-leb (g .n) u q, (unmarked (s .fits) u q n, tt))

@@ -1,9 +1,9 @@
 -- A step or a terminal mark: tables that fit for a history fit for the history with it, and the news is the definition's.
 -- Assumes nothing.
-use mathlib.Core.Path.{_≡_, refl, sym, _∙_, ap, subst}
+use mathlib.Core.Path.{_≡_, refl, sym, _∙_, ap}
 use mathlib.Core.Bool.{Bool, true, false, not, cond, _&&_, _||_, true≢false}
 use mathlib.Core.List.{List, _∷_}
-use Prim.Native.Nat.{ℕ, _<_, _≤_}
+use Prim.Native.Nat.{ℕ, suc, _<_, _≤_}
 use native.Mathlib.Omega.{arith}
 use native.Mathlib.Decide.{ℕ-discrete}
 use lib.Dec.{eqb}
@@ -16,20 +16,23 @@ use Rattle.gid.specs.Histories.{History, IsClosed}
 use Rattle.gid.specs.Statuses.{isNamed, isClosed, isLive, isDead, status, statusUnseen, statusOpen, statusUnknown, statusLive}
 use Rattle.gid.specs.News.{settles, below, news}
 use Rattle.gid.specs.Successors.{Chain, ends, follows, Having, SuccessorRule, noSuccessor}
+use Rattle.gid.specs.Systems.{ListedAt}
 use Rattle.gid.proofs.Decide.{refutes}
 use Rattle.gid.proofs.Tests.{decides-live}
 use Rattle.gid.proofs.Statuses.{status-live}
+use Rattle.gid.proofs.Listing.{stays-arc}
 use Rattle.gid.proofs.Chains.{successor-rule}
 use Rattle.gid.proofs.After.{same-dead-sent}
 use Rattle.tables.specs.declared.Graph.{Graph}
 use Rattle.tables.specs.Tables.{Tables}
-use Rattle.tables.specs.Work.{NoneVisited}
+use Rattle.tables.specs.Visits.{NoneVisited}
 use Rattle.tables.specs.Fitting.{Consistent}
-use Rattle.engine.specs.Effects.{namedByte, nameAt}
-use Rattle.engine.specs.Searches.{SearchTables, namesAfter}
+use Rattle.search.specs.Searches.{SearchTables}
+use Rattle.engine.specs.Preparing.{namedByte, nameAt, namesAfter, InRange}
 use Rattle.engine.specs.Outcomes.{Right}
-use Rattle.engine.proofs.Naming.{set-at, InRange}
+use Rattle.engine.proofs.Naming.{set-at}
 use Rattle.engine.proofs.Settlement.{sent-status}
+use Rattle.engine.proofs.Preparing.{rule-listed}
 
 -- an update that is no close
 abbrev pub Sent : Update → Type 0
@@ -37,19 +40,19 @@ Sent x = (s : ℕ) → Close s ≡ x → ⊥
 
 -- the update mentions the state
 abbrev pub mentions : Update → ℕ → Bool
-mentions (Step u v) s = eqb u s || eqb v s
+mentions (Step e) s = eqb (e .from) s || eqb (e .to) s
 mentions (Terminal u) s = eqb u s
 mentions (Close u) s = eqb u s
 
 pub named-after : (h : History) (x : Update) (s : ℕ) → isNamed (x ∷ h) s ≡ mentions x s || isNamed h s
 unfolding isNamed
-named-after h (Step u v) s = refl
+named-after h (Step e) s = refl
 named-after h (Terminal u) s = refl
 named-after h (Close u) s = refl
 
 closed-after : (h : History) (x : Update) → Sent x → (s : ℕ) → isClosed (x ∷ h) s ≡ isClosed h s
 unfolding isClosed
-closed-after h (Step u v) n s = refl
+closed-after h (Step e) n s = refl
 closed-after h (Terminal u) n s = refl
 closed-after h (Close u) n s = absurd (n u refl)
 
@@ -76,21 +79,21 @@ named-one l u b s = set-at l u (namedByte (getD l u 0)) b s ∙ at (ℕ-discrete
 
 -- the statuses once the update's states are named
 pub names-at : (x : Update) (l : List ℕ) (n : ℕ) → n ≤ length l → InRange n x → (s : ℕ) → getD (namesAfter x l) s 0 ≡ cond (mentions x s) (namedByte (getD l s 0)) (getD l s 0)
-names-at (Step u v) l n b r s =
-    named-one (nameAt u l) v (rw length-set (omega arith)) s ∙
-    rw (named-one l u (omega arith) s) (named-twice (eqb u s) (eqb v s) (getD l s 0))
+names-at (Step e) l n b r s =
+    named-one (nameAt (e .from) l) (e .to) (rw length-set (omega arith)) s ∙
+    rw (named-one l (e .from) (omega arith) s) (named-twice (eqb (e .from) s) (eqb (e .to) s) (getD l s 0))
 names-at (Terminal u) l n b r s = named-one l u (omega arith) s
 names-at (Close u) l n b r s = named-one l u (omega arith) s
 
 -- What a step or a terminal mark leaves: the states of the test W become live, those named are no longer unseen, and nothing else changes.
-pub record Spreads (h : History) (x : Update) (n m : ℕ) (from to : List ℕ) (b a : SearchTables) (k : ℕ) (W : ℕ → Bool) : Type 0 where
+pub record Spreads (h : History) (x : Update) (n : ℕ) (b a : SearchTables) (k : ℕ) (W : ℕ → Bool) : Type 0 where
   pub statuses : (s : ℕ) → s < n → getD (a .status) s 0 ≡ cond (W s) statusLive (getD (b .status) s 0)
   pub successors : (s : ℕ) → s < n → getD (a .successor) s 0 ≡ cond (W s) noSuccessor (getD (b .successor) s 0)
   pub unvisited : NoneVisited n (a .visited)
   pub named : (f : ℕ → Bool) → ((s : ℕ) → s < n → f s ≡ W s) → take k (a .news) ≡ below n f
   pub lives : (s : ℕ) → s < n → isLive (x ∷ h) s ≡ W s || isLive h s
   pub new : (s : ℕ) → s < n → W s ≡ true → isLive h s ≡ false
-  pub sources : (p : ℕ) → p < m → isLive h (getD from p 0) ≡ false → W (getD to p 0) ≡ true → W (getD from p 0) ≡ true
+  pub sources : (s p t : ℕ) → ListedAt h s p t → isLive h s ≡ false → W t ≡ true → W s ≡ true
 
 settles-is : (w l d : Bool) → (w ≡ true → l ≡ false) → (w || l) && not l || d && not d ≡ w
 settles-is true l d q = rw (q refl)
@@ -114,8 +117,7 @@ seen-stays true k n = rw (ne-eqb k statusUnseen n)
 seen-stays false k n = refl
 
 module _ {h : History} {g : Graph} {t : Tables} (c : Consistent h g t) {x : Update} (sent : Sent x) (range : InRange (g .n) x) (unclosed : IsClosed h (source x) → ⊥) (long : g .n ≤ length (t .status))
-    {m : ℕ} {from to : List ℕ} (more : g .steps ≤ m) (oldFrom : (p : ℕ) → p < g .steps → getD from p 0 ≡ getD (t .from) p 0) (oldTo : (p : ℕ) → p < g .steps → getD to p 0 ≡ getD (t .to) p 0)
-    {b a : SearchTables} {k : ℕ} {W : ℕ → Bool} (named : b .status ≡ namesAfter x (t .status)) (same : b .successor ≡ t .successor) (w : Spreads h x (g .n) m from to b a k W) where
+    {b a : SearchTables} {k : ℕ} {W : ℕ → Bool} (named : b .status ≡ namesAfter x (t .status)) (same : b .successor ≡ t .successor) (w : Spreads h x (g .n) b a k W) where
   status-at : (s : ℕ) → s < g .n → getD (a .status) s 0 ≡ cond (W s) statusLive (cond (mentions x s) (namedByte (getD (t .status) s 0)) (getD (t .status) s 0))
   status-at s q = w .statuses s q ∙ rw named (ap (λ (y : ℕ). cond (W s) statusLive y) (names-at x (t .status) (g .n) long range s))
 
@@ -135,62 +137,41 @@ module _ {h : History} {g : Graph} {t : Tables} (c : Consistent h g t) {x : Upda
   stays : (s j : ℕ) → s < g .n → (j ≡ statusUnseen → ⊥) → W s ≡ false → getD (t .status) s 0 ≡ j → getD (a .status) s 0 ≡ j
   stays s j q n e z = status-at s q ∙ rw (e, z) (seen-stays (mentions x s) j n)
 
+  kept : (s : ℕ) → s < g .n → W s ≡ false → getD (a .successor) s 0 ≡ getD (t .successor) s 0
+  kept s q e = successor-at s q ∙ rw e
+
   unlive : {s : ℕ} → Having (g .n) (λ r. getD (t .status) r 0) statusUnknown s → isLive h s ≡ false
   unlive {s} u = refutes (isLive h s) (decides-live h s) (λ l. let e = sym (c .status s (u .0)) ∙ u .1 in let f = status-live h s .1 l in omega arith)
 
+  abbrev Goes : ℕ → Type 0
+  Goes s = (j : ℕ) × Chain (Having (g .n) (λ r. getD (a .status) r 0) statusUnknown) (Having (g .n) (λ r. getD (a .status) r 0) statusOpen) (λ r v. ListedAt (x ∷ h) r (getD (a .successor) r 0) v) s j
+
   -- the old chain goes on, outside of what becomes live
-  chain : {s j : ℕ} → W s ≡ false → Chain (Having (g .n) (λ r. getD (t .status) r 0) statusUnknown) (Having (g .n) (λ r. getD (t .status) r 0) statusOpen) (λ r. getD (t .to) (getD (t .successor) r 0) 0) s j → Chain (Having (g .n) (λ r. getD (a .status) r 0) statusUnknown) (Having (g .n) (λ r. getD (a .status) r 0) statusOpen) (λ r. getD to (getD (a .successor) r 0) 0) s j
-  chain {s} e (ends o) = ends (o .0, stays s statusOpen (o .0) (λ z. omega arith) e (o .1))
-  chain {s} e (follows {k = j} u d) =
-      follows (u .0, stays s statusUnknown (u .0) (λ z. omega arith) e (u .1))
-      (subst (λ (r : ℕ). Chain (Having (g .n) (λ q. getD (a .status) q 0) statusUnknown) (Having (g .n) (λ q. getD (a .status) q 0) statusOpen) (λ q. getD to (getD (a .successor) q 0) 0) r j) (sym next) (chain (outside (W (getD (t .to) (getD (t .successor) s 0) 0)) refl) d))
+  chain : {s j : ℕ} → W s ≡ false → Chain (Having (g .n) (λ r. getD (t .status) r 0) statusUnknown) (Having (g .n) (λ r. getD (t .status) r 0) statusOpen) (λ r v. ListedAt h r (getD (t .successor) r 0) v) s j → Goes s
+  chain {s} e (ends o) = (0, ends (o .0, stays s statusOpen (o .0) (λ z. omega arith) e (o .1)))
+  chain {s} e (follows {t = v} u l d) =
+      let r = chain (outside (W v) refl) d in
+      (suc (r .0), follows {t = v} (u .0, stays s statusUnknown (u .0) (λ z. omega arith) e (u .1)) (rw (kept s (u .0) e) (stays-arc h x l)) (r .1))
     where
-      l : (getD (t .successor) s 0 < g .steps) × (getD (t .from) (getD (t .successor) s 0) 0 ≡ s)
-      l = c .successor .listed s u
-
-      source′ : getD from (getD (t .successor) s 0) 0 ≡ s
-      source′ = oldFrom (getD (t .successor) s 0) (l .0) ∙ l .1
-
-      target′ : getD to (getD (t .successor) s 0) 0 ≡ getD (t .to) (getD (t .successor) s 0) 0
-      target′ = oldTo (getD (t .successor) s 0) (l .0)
-
-      next : getD to (getD (a .successor) s 0) 0 ≡ getD (t .to) (getD (t .successor) s 0) 0
-      next = rw (successor-at s (u .0), e) target′
-
-      outside : (z : Bool) → W (getD (t .to) (getD (t .successor) s 0) 0) ≡ z → W (getD (t .to) (getD (t .successor) s 0) 0) ≡ false
+      outside : (z : Bool) → W v ≡ z → W v ≡ false
       outside false q = q
-      outside true q =
-          let inside = w .sources (getD (t .successor) s 0) (omega (arith, l .0)) (rw source′ (unlive u)) (rw target′ q) in
-          absurd (true≢false (sym (rw source′ at inside) ∙ e))
+      outside true q = absurd (true≢false (sym (w .sources s (getD (t .successor) s 0) v l (unlive u) q) ∙ e))
 
-  successors-right : SuccessorRule (g .n) m (λ s. getD (a .status) s 0) (λ p. getD from p 0) (λ p. getD to p 0) (λ s. getD (a .successor) s 0)
+  successors-right : SuccessorRule (g .n) (ListedAt (x ∷ h)) (λ s. getD (a .status) s 0) (λ s. getD (a .successor) s 0)
   successors-right =
-      successor-rule (g .n) m (λ s. getD (a .status) s 0) (λ p. getD from p 0) (λ p. getD to p 0) (λ s. getD (a .successor) s 0) listed escapes others
+      successor-rule (g .n) (ListedAt (x ∷ h)) (λ s. getD (a .status) s 0) (λ s. getD (a .successor) s 0)
+      (λ s u. let v = was-unknown u in chain (v .0) (rule-listed c .escapes s (v .1) .2))
+      others
     where
-      kept : {s : ℕ} → s < g .n → W s ≡ false → getD (a .successor) s 0 ≡ getD (t .successor) s 0
-      kept {s} q e = successor-at s q ∙ rw e
-
-      listed : (s : ℕ) → Having (g .n) (λ r. getD (a .status) r 0) statusUnknown s → (getD (a .successor) s 0 < m) × (getD from (getD (a .successor) s 0) 0 ≡ s)
-      listed s u =
-          let v = was-unknown u in
-          let l = c .successor .listed s (v .1) in
-          rw (kept (u .0) (v .0)) (omega (arith, l .0), oldFrom (getD (t .successor) s 0) (l .0) ∙ l .1)
-
-      escapes : (s : ℕ) → Having (g .n) (λ r. getD (a .status) r 0) statusUnknown s → (j : ℕ) × Chain (Having (g .n) (λ r. getD (a .status) r 0) statusUnknown) (Having (g .n) (λ r. getD (a .status) r 0) statusOpen) (λ r. getD to (getD (a .successor) r 0) 0) s j
-      escapes s u =
-          let v = was-unknown u in
-          let d = c .successor .escapes s (v .1) in
-          (d .0, chain (v .0) (d .2))
-
       others : (s : ℕ) → s < g .n → (getD (a .status) s 0 ≡ statusUnknown → ⊥) → getD (a .successor) s 0 ≡ noSuccessor
       others s q n = at (W s) refl
         where
           at : (z : Bool) → W s ≡ z → getD (a .successor) s 0 ≡ noSuccessor
           at true e = successor-at s q ∙ rw e
-          at false e = kept q e ∙ c .successor .others s q (λ z. n (stays s statusUnknown q (λ y. omega arith) e z))
+          at false e = kept s q e ∙ c .successor .others s q (λ z. n (stays s statusUnknown q (λ y. omega arith) e z))
 
   -- The outcome is right.
-  pub spread-right : Right h x (g .n) m from to a k
+  pub spread-right : Right h x (g .n) a k
   unfolding news settles
   spread-right =
       record {

@@ -11,9 +11,10 @@ use Rattle.gid.specs.Successors.{noSuccessor}
 use Rattle.gid.specs.Statuses.{statusLive, statusDead, statusUnknown, statusOpen, statusUnseen}
 use Rattle.gid.specs.News.{below}
 use Rattle.gid.proofs.News.{below-same, below-more}
-use Rattle.tables.specs.Work.{NoneVisited, marked}
-use Rattle.search.specs.Settling.{settledFrom, Settled}
-use Rattle.engine.specs.Effects.{namedByte}
+use Rattle.tables.specs.Visits.{NoneVisited, marked}
+use Rattle.search.specs.Settling.{toldAll, settledFrom, Settled}
+use Rattle.search.proofs.Settling.{told-same}
+use Rattle.engine.specs.Preparing.{namedByte}
 
 module _ {low high verdict : ℕ} {st su ne vi st′ su′ ne′ vi′ : List ℕ} {k : ℕ} (z : Settled low high verdict st su ne vi st′ su′ ne′ vi′ k) (n : ℕ) (top : high < n) (within : (s : ℕ) → s < n → marked vi s ≡ true → (low ≤ s) × (s ≤ high)) where
   settled-is : (s : ℕ) → s < n → settledFrom low high vi s ≡ marked vi s
@@ -44,7 +45,7 @@ module _ {low high verdict : ℕ} {st su ne vi st′ su′ ne′ vi′ : List �
   -- the news are the states of which a test holds, where that is the visited ones
   pub news-are : (f : ℕ → Bool) → ((s : ℕ) → s < n → f s ≡ marked vi s) → take k ne′ ≡ below n f
   news-are f e =
-      z .front ∙
+      z .front ∙ told-same (below (suc high) (settledFrom low high vi)) ∙
       sym (below-more (suc high) n (settledFrom low high vi) top (λ s a b. above s a)) ∙
       below-same n (settledFrom low high vi) f (λ s b. settled-is s b ∙ sym (e s b))
     where

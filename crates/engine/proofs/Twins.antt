@@ -10,23 +10,23 @@ use lib.ListN.{length, getD, length-append}
 use Rattle.gid.specs.declared.Update.{Update}
 use Rattle.gid.specs.declared.Update.the-variants.{Step, Terminal, Close}
 use Rattle.gid.specs.Updates.{source}
-use Rattle.gid.specs.Histories.{History, IsNamed}
+use Rattle.gid.specs.Histories.{History, IsNamed, added, listed}
 use Rattle.gid.specs.Statuses.{status}
 use Rattle.gid.specs.News.{news}
 use Rattle.gid.specs.Pruning.{Pruned, start, keep, leave}
 use Rattle.gid.proofs.Pruning.{keeps, pruning}
 use Rattle.tables.specs.declared.Graph.{Graph}
 use Rattle.tables.specs.declared.lengths.Lengths.{Lengths}
-use Rattle.tables.specs.Tables.{Tables, enough, needs, lengths}
+use Rattle.tables.specs.Tables.{Tables, enough, needs, lengths, longEnough}
 use Rattle.tables.specs.Refused.{refusalOn}
-use Rattle.tables.specs.Fitting.{sources, Fresh}
+use Rattle.tables.specs.Fitting.{Fresh}
 use Rattle.tables.proofs.Refusing.{lent-leaves, accepted-passes}
 use Rattle.engine.specs.declared.Answer.the-variants.{Accepted}
 use Rattle.engine.specs.Answers.{newsOf}
 use Rattle.engine.specs.Promise.{Promise, Sendable}
 use Rattle.engine.specs.Runs.{Run, begun, accepted, refused, Agree}
 use Rattle.engine.proofs.Promising.{sendable-of}
-use Rattle.engine.proofs.Running.{was-accepted, was-refused, Sound, sound, sound-checked, unclosed, not-refused, same-states}
+use Rattle.engine.proofs.Running.{was-accepted, was-refused, Sound, sound, sound-checked, unclosed, not-refused}
 
 both : {o : Option ℕ} {k : ℕ} → o ≡ none → o ≡ some k → ⊥
 both e d = let b : _≡_ {A = ℕ} 0 1 = cc in omega arith
@@ -35,19 +35,15 @@ sound-as : {g₀ g : Graph} {t₀ t : Tables} {h f : History} → h ≡ f → So
 sound-as {g₀} {g} {t₀} {t} e s = subst (λ (h : History). Sound g₀ t₀ h g t) e s
 
 -- a pruned history has no more steps
-fewer : {f p : History} → Pruned f p → length (sources p) ≤ length (sources f)
-unfolding sources
+fewer : {f p : History} → Pruned f p → length (listed p) ≤ length (listed f)
+unfolding listed
 fewer start = omega arith
-fewer (keep {f = f} {p = p} (Step u v) c) = let i = fewer c in rw (length-append (sources p) (u ∷ []), length-append (sources f) (u ∷ [])) (omega arith)
-fewer (keep (Terminal u) c) = fewer c
-fewer (keep (Close u) c) = fewer c
-fewer (leave {f = f} (Step u v) l c) = let i = fewer c in rw (length-append (sources f) (u ∷ [])) (omega arith)
-fewer (leave (Terminal u) l c) = fewer c
-fewer (leave (Close u) l c) = fewer c
+fewer (keep {f = f} {p = p} x c) = let i = fewer c in rw (length-append (listed p) (added x), length-append (listed f) (added x)) (omega arith)
+fewer (leave {f = f} x l c) = let i = fewer c in rw (length-append (listed f) (added x)) (omega arith)
 
 -- an update that is sendable with more steps listed is so with fewer
 sendable-fewer : (n limit : ℕ) {m m′ : ℕ} → m′ ≤ m → (x : Update) → Sendable n limit m x → Sendable n limit m′ x
-sendable-fewer n limit h (Step u v) s = (s .0, s .1, omega (arith, s .2))
+sendable-fewer n limit h (Step e) s = (s .0, s .1, omega (arith, s .2))
 sendable-fewer n limit h (Terminal u) s = s
 sendable-fewer n limit h (Close u) s = s
 
@@ -56,13 +52,13 @@ module _ {g₀ g₁ : Graph} {t₀ t₁ : Tables} (fresh₀ : Fresh g₀ t₀) (
   accepts-too : {f p : History} {g g′ : Graph} {t t′ : Tables} → Pruned f p → Sound g₀ t₀ f g t → Sound g₁ t₁ p g′ t′ → (x : Update) → refusalOn g t x ≡ none → refusalOn g′ t′ x ≡ none
   accepts-too {f} {p} {g} {g′} {t} {t′} c s s′ x e =
       let q = accepted-passes g t x e in
-      let l = lent-leaves g (enough (needs (g .n) (g .limit) (lengths t))) (q .0) in
+      let l = lent-leaves g (longEnough g t) (q .0) in
       let d = sendable-of g (t .marks) (t .status) x (s .room) (q .1) in
       let n : g′ .n ≡ g .n = s′ .states ∙ states ∙ sym (s .states) in
       let m : g′ .limit ≡ g .limit = s′ .limit ∙ limits ∙ sym (s .limit) in
       let z : lengths t′ ≡ lengths t = s′ .sizes ∙ sizes ∙ sym (s .sizes) in
       let w : g′ .steps ≤ g .steps = rw (s′ .fits .steps, s .fits .steps) (fewer c) in
-      not-refused s′ (rw n (l .some-states)) (rw n (l .few-states)) (rw m (l .some-limit)) (rw m (l .low-limit)) (rw (n, m) (subst (λ (y : Lengths). enough (needs (g .n) (g .limit) y) ≡ true) (sym z) (l .longs))) x
+      not-refused s′ (rw n (l .some-states)) (rw n (l .few-states)) (rw m (l .some-limit)) (rw m (l .low-limit)) (rw (n, m) (subst (λ (y : Lengths). enough (needs (g .n) (g .n) (g .limit) y) ≡ true) (sym z) (l .longs))) x
       (rw (n, m) (sendable-fewer (g .n) (g .limit) w x (d .0)))
       (λ k. unclosed s x e (keeps c .part (Close (source x)) k))
 
@@ -78,7 +74,7 @@ module _ {g₀ g₁ : Graph} {t₀ t₁ : Tables} (fresh₀ : Fresh g₀ t₀) (
     range-of r q = was-accepted o .1 .fits h (s .legal) (s .fits) .0 .inRange r q
 
     states-of : g′ .n ≡ g .n
-    states-of = ap (λ (e : Graph). e .n) (was-accepted o .1 .graph) ∙ same-states g x
+    states-of = ap (λ (e : Graph). e .n) (was-accepted o .1 .graph)
 
   -- a kept update, where the histories are f and p
   kept-agree : {f p : History} {g g₂ g′ g₂′ : Graph} {t t₂ t′ t₂′ : Tables} {x : Update} {k j : ℕ} (c : Pruned f p) (s : Sound g₀ t₀ f g t) (s′ : Sound g₁ t₁ p g₂ t₂) → Promise g x t g′ (Accepted k) t′ → Promise g₂ x t₂ g₂′ (Accepted j) t₂′ → (newsOf (Accepted k) (t′ .news) ≡ newsOf (Accepted j) (t₂′ .news)) × ((r : ℕ) → IsNamed (x ∷ p) r → getD (t′ .status) r 0 ≡ getD (t₂′ .status) r 0)

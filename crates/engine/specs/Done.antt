@@ -1,60 +1,54 @@
 -- What an accepted update does, on tables with any contents.
 -- Assumes nothing.
 use mathlib.Core.Path.{_≡_}
-use mathlib.Core.List.{List}
+use mathlib.Core.List.{List, []}
 use Prim.Native.Nat.{ℕ, _+_, _≤_}
-use lib.ListN.{length, set}
+use lib.ListN.{length}
+use Rattle.gid.specs.declared.Edge.{Edge}
 use Rattle.gid.specs.declared.Update.{Update}
-use Rattle.gid.specs.declared.Update.the-variants.{Step, Terminal, Close}
+use Rattle.gid.specs.declared.Update.the-variants.{Step}
+use Rattle.gid.specs.Histories.{added}
 use Rattle.gid.specs.Refusals.{maxStates, maxSteps}
 use Rattle.tables.specs.Tables.{Tables, Long}
+use Rattle.tables.specs.Listing.{fromAfter, toAfter}
 use Rattle.adjacency.specs.Walks.{Pushed}
+use Rattle.search.specs.Spreading.{chains, into, outOf}
+use Rattle.search.specs.Escaping.{toward}
+use Rattle.search.specs.Searches.{SearchTables}
 use Rattle.engine.specs.Effects.{marksAfter}
-use Rattle.engine.specs.Searches.{SearchTables, namesAfter, MakesLive, Joins, Closes}
+use Rattle.engine.specs.Preparing.{namesAfter}
+use Rattle.engine.specs.Judging.{Judged}
 
--- The step from u to v is listed behind the m steps: in the list, and in front of the steps out of u and into v.
-pub record Listed (m u v : ℕ) (from to inHead outHead inNext outNext from′ to′ inHead′ outHead′ inNext′ outNext′ : List ℕ) : Type 0 where
-  pub source : from′ ≡ set from m u
-  pub target : to′ ≡ set to m v
-  pub outOf : Pushed outHead outNext u m outHead′ outNext′
-  pub into : Pushed inHead inNext v m inHead′ inNext′
+-- The chains of steps after the update x: a step is put in front of the steps out of its source and of those into its target, at the place m.
+pub data Chained (m : ℕ) (inHead outHead inNext outNext inHead′ outHead′ inNext′ outNext′ : List ℕ) : Update → Type 0 where
+  pushed : (e : Edge) → Pushed outHead outNext (e .from) m outHead′ outNext′ → Pushed inHead inNext (e .to) m inHead′ inNext′ → Chained m inHead outHead inNext outNext inHead′ outHead′ inNext′ outNext′ (Step e)
+  same : {x : Update} → added x ≡ [] → inHead′ ≡ inHead → outHead′ ≡ outHead → inNext′ ≡ inNext → outNext′ ≡ outNext → Chained m inHead outHead inNext outNext inHead′ outHead′ inNext′ outNext′ x
 
--- The tables that a search writes, before and after.
+-- What the update x adds is listed behind the m steps, in the list and in the chains.
+pub record Listed (m : ℕ) (x : Update) (from to inHead outHead inNext outNext from′ to′ inHead′ outHead′ inNext′ outNext′ : List ℕ) : Type 0 where
+  pub sources : from′ ≡ fromAfter m x from
+  pub targets : to′ ≡ toAfter m x to
+  pub chained : Chained m inHead outHead inNext outNext inHead′ outHead′ inNext′ outNext′ x
+
+-- The tables that a search writes, and with the states of x named.
 abbrev pub searchTables : Tables → SearchTables
 searchTables t = record { status = t .status; successor = t .successor; news = t .news; visited = t .visited; queue = t .queue }
 
 abbrev pub naming : Update → SearchTables → SearchTables
 naming x b = record { status = namesAfter x (b .status); successor = b .successor; news = b .news; visited = b .visited; queue = b .queue }
 
--- The list of steps and its chains stay as they are.
-pub record SameList (t t′ : Tables) : Type 0 where
-  pub from : t′ .from ≡ t .from
-  pub to : t′ .to ≡ t .to
-  pub inHead : t′ .inHead ≡ t .inHead
-  pub outHead : t′ .outHead ≡ t .outHead
-  pub inNext : t′ .inNext ≡ t .inNext
-  pub outNext : t′ .outNext ≡ t .outNext
-
--- The update x is done on tables with n states and m steps: k states are settled.
-pub data Done (n m : ℕ) (t t′ : Tables) (k : ℕ) : Update → Type 0 where
-  stepped :
-      {u v : ℕ} → t′ .marks ≡ marksAfter (Step u v) (t .marks) →
-      Listed m u v (t .from) (t .to) (t .inHead) (t .outHead) (t .inNext) (t .outNext) (t′ .from) (t′ .to) (t′ .inHead) (t′ .outHead) (t′ .inNext) (t′ .outNext) →
-      Joins n (m + 1) u v (t′ .from) (t′ .inHead) (t′ .inNext) (naming (Step u v) (searchTables t)) (searchTables t′) k →
-      Done n m t t′ k (Step u v)
-  terminated :
-      {u : ℕ} → t′ .marks ≡ marksAfter (Terminal u) (t .marks) → SameList t t′ →
-      MakesLive n m u (t .from) (t .inHead) (t .inNext) (naming (Terminal u) (searchTables t)) (searchTables t′) k →
-      Done n m t t′ k (Terminal u)
-  closed :
-      {u : ℕ} → t′ .marks ≡ marksAfter (Close u) (t .marks) → SameList t t′ →
-      Closes n m u (t .from) (t .to) (t .inHead) (t .outHead) (t .inNext) (t .outNext) (naming (Close u) (searchTables t)) (searchTables t′) k →
-      Done n m t t′ k (Close u)
+-- The update x is done on tables with n states and m steps: k news.
+pub record Done (n m : ℕ) (t t′ : Tables) (k : ℕ) (x : Update) : Type 0 where
+  pub marks : t′ .marks ≡ marksAfter x (t .marks)
+  pub listed : Listed m x (t .from) (t .to) (t .inHead) (t .outHead) (t .inNext) (t .outNext) (t′ .from) (t′ .to) (t′ .inHead) (t′ .outHead) (t′ .inNext) (t′ .outNext)
+  pub judged :
+      Judged n (into (chains n (m + length (added x)) (t′ .from) (t′ .inHead) (t′ .inNext))) (outOf (chains n (m + length (added x)) (t′ .to) (t′ .outHead) (t′ .outNext)))
+      (toward (m + length (added x)) (t′ .to)) x (naming x (searchTables t)) (searchTables t′) k
 
 -- What the tests 1 to 4 leave to an update.
-pub record Room (n limit m : ℕ) (t : Tables) : Type 0 where
+pub record Room (n nodes limit m : ℕ) (t : Tables) : Type 0 where
   pub states : n ≤ maxStates
   pub bound : limit ≤ maxSteps
   pub steps : m ≤ limit
   pub news : n ≤ length (t .news)
-  pub long : Long n limit t
+  pub long : Long n nodes limit t

@@ -1,13 +1,10 @@
--- What an accepted update does to the marks and to the statuses of the states that it names, on tables with any contents.
+-- What an accepted update does to the marks, on tables with any contents.
 -- Assumes nothing.
-use mathlib.Core.Bool.{cond}
 use mathlib.Core.List.{List}
 use Prim.Native.Nat.{ℕ}
-use lib.Dec.{eqb}
 use lib.ListN.{getD, set}
 use Rattle.gid.specs.declared.Update.{Update}
 use Rattle.gid.specs.declared.Update.the-variants.{Step, Terminal, Close}
-use Rattle.gid.specs.Statuses.{statusUnseen, statusOpen}
 use Rattle.tables.specs.Marks.{withNamed, withTerminal, withClosed}
 
 -- A mark is set in the byte of a state.
@@ -16,13 +13,6 @@ markAt f s marks = set marks s (f (getD marks s 0))
 
 -- "an accepted update sets bits and clears none": it names its states, and marks its first one.
 abbrev pub marksAfter : Update → List ℕ → List ℕ
-marksAfter (Step u v) marks = markAt withNamed v (markAt withNamed u marks)
+marksAfter (Step e) marks = markAt withNamed (e .to) (markAt withNamed (e .from) marks)
 marksAfter (Terminal u) marks = markAt withTerminal u (markAt withNamed u marks)
 marksAfter (Close u) marks = markAt withClosed u (markAt withNamed u marks)
-
--- A state that is named: unseen becomes open.
-abbrev pub namedByte : ℕ → ℕ
-namedByte b = cond (eqb b statusUnseen) statusOpen b
-
-abbrev pub nameAt : ℕ → List ℕ → List ℕ
-nameAt s status = set status s (namedByte (getD status s 0))

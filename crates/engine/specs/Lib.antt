@@ -4,6 +4,7 @@ pub mod Effects
 pub mod Promise
 pub mod Runs
 -- Inner contracts, which no promise cites: what each part of an update does, on tables with any contents, and what is to come of it. The proofs bind them to the promise.
-pub mod Searches
+pub mod Preparing
+pub mod Judging
 pub mod Outcomes
 pub mod Done

@@ -9,7 +9,7 @@ use Rattle.gid.specs.declared.Update.the-variants.{Step, Terminal, Close}
 use Rattle.gid.specs.Histories.{History, Legal}
 use Rattle.gid.specs.News.{news, Rising}
 use Rattle.tables.specs.declared.Graph.{Graph}
-use Rattle.tables.specs.Tables.{Tables}
+use Rattle.tables.specs.Tables.{Tables, nodesOf}
 use Rattle.tables.specs.Keeping.{Kept, KeptTables}
 use Rattle.tables.specs.Listing.{fromAfter, toAfter, graphAfter}
 use Rattle.tables.specs.Refused.{refusalOn}
@@ -33,7 +33,7 @@ pub record AcceptedUpdate (g : Graph) (x : Update) (t : Tables) (g′ : Graph) (
   pub from : t′ .from ≡ fromAfter (g .steps) x (t .from)
   pub to : t′ .to ≡ toAfter (g .steps) x (t .to)
   -- every table below its needed length alone, and the news. What statuses, successors and work tables hold there is free on tables that do not fit.
-  pub kept : KeptTables (g .n) (g .limit) t t′
+  pub kept : KeptTables (g .n) (nodesOf g) (g .limit) t t′
   pub named : NewsKept (g .n) (t .news) (t′ .news) answer
   -- On tables that fit for a legal history h: they fit for h followed by x, and the news is the definition's.
   pub fits : (h : History) → Legal h → Consistent h g t → Consistent (x ∷ h) g′ t′ × (newsOf answer (t′ .news) ≡ news (g .n) h x)
@@ -46,6 +46,6 @@ pub record Promise (g : Graph) (x : Update) (t : Tables) (g′ : Graph) (answer 
 
 -- The update's states are below n, and a step has a free place.
 abbrev pub Sendable : ℕ → ℕ → ℕ → Update → Type 0
-Sendable n limit m (Step u v) = (u < n) × (v < n) × (m < limit)
+Sendable n limit m (Step e) = (e .from < n) × (e .to < n) × (m < limit)
 Sendable n limit m (Terminal u) = u < n
 Sendable n limit m (Close u) = u < n

@@ -68,27 +68,37 @@ impl Engine {
         let n = graph.n;
         let limit = graph.limit;
         let steps = graph.steps;
-        let lent = graph.lent(lengths.enough(n, limit));
+        let lent = graph.lent(lengths.enough(n, graph.nodes(), limit));
         if lent != 0 {
             return Updated {
                 engine: self,
                 answer: Answer::Refused(lent),
             };
         }
-        let sent = graph.sent(update, marks, status);
+        let sent = graph.sent(graph.is_full(), update, marks, status);
         if sent != 0 {
             return Updated {
                 engine: self,
                 answer: Answer::Refused(sent),
             };
         }
-        let count = accept::accept(
+        accept::list(
+            update,
+            steps,
+            from,
+            to,
+            in_head,
+            out_head,
+            in_next,
+            out_next,
+        );
+        accept::mark(update, status, marks);
+        let after = graph.after(update);
+        let count = accept::judge(
             update,
             n,
-            limit,
-            steps,
+            after.steps,
             status,
-            marks,
             from,
             to,
             successor,
@@ -101,9 +111,7 @@ impl Engine {
             out_next,
         );
         Updated {
-            engine: Engine {
-                graph: graph.after(update),
-            },
+            engine: Engine { graph: after },
             answer: Answer::Accepted(count),
         }
     }

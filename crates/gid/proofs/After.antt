@@ -1,19 +1,19 @@
 -- What one update changes of live and dead.
 -- Assumes nothing.
-use mathlib.Core.Path.{_≡_, subst}
+use mathlib.Core.Path.{_≡_}
 use mathlib.Core.Logic.{⊎-elim}
-use mathlib.Core.List.{_∷_, List·Memᴰ·tail, List·Memᴰ·cases-cons}
+use mathlib.Core.List.{[], _∷_, List·Memᴰ·tail, List·Memᴰ·cases-cons}
 use Prim.Native.Nat.{ℕ}
 use Rattle.gid.specs.declared.Update.{Update}
 use Rattle.gid.specs.declared.Update.the-variants.{Close}
 use Rattle.gid.specs.Updates.{source}
-use Rattle.gid.specs.Histories.{History, Has, IsStep, IsTerminal, IsClosed}
-use Rattle.gid.specs.Verdicts.{here, DeadByReach}
+use Rattle.gid.specs.Histories.{History, Has, IsClosed}
+use Rattle.gid.specs.Verdicts.{DeadByReach}
 use Rattle.gid.specs.Statuses.{isLive, isDead}
 use Rattle.gid.proofs.Decide.{same-test}
 use Rattle.gid.proofs.Paths.{path-within, within-newer, unsplit}
 use Rattle.gid.proofs.Tests.{decides-live, decides-dead, step-close, terminal-close}
-use Rattle.gid.proofs.Deadness.{live-within, dead-closed, dead-target, dead-greatest}
+use Rattle.gid.proofs.Deadness.{live-within, dead-continued}
 
 -- One of the older updates, where it is not the newest.
 pub older : {h : History} {x y : Update} → (y ≡ x → ⊥) → Has (x ∷ h) y → Has h y
@@ -23,19 +23,13 @@ older n m = ⊎-elim (λ e. absurd (n e)) (λ q. q) (List·Memᴰ·cases-cons m)
 pub same-live-close : (h : History) (u s : ℕ) → isLive (Close u ∷ h) s ≡ isLive h s
 same-live-close h u s =
     same-test (isLive (Close u ∷ h) s) (isLive h s) (decides-live (Close u ∷ h) s) (decides-live h s)
-    (λ l. (l .0, unsplit (Close u) (λ a b. step-close a b u) (l .1), older (terminal-close (l .0) u) (l .2)))
+    (λ l. (l .0, unsplit (Close u) (λ e. step-close e u) (l .1), older (terminal-close (l .0) u) (l .2)))
     (live-within (within-newer (Close u)))
 
 -- A step or a terminal mark sent from a state that is not closed makes no state dead, and none that is dead ceases to be.
 module _ {h : History} {x : Update} (sent : (s : ℕ) → Close s ≡ x → ⊥) (unclosed : IsClosed h (source x) → ⊥) where
   dead-kept : {s : ℕ} → DeadByReach h s → DeadByReach (x ∷ h) s
-  dead-kept d = dead-greatest (DeadByReach h) (λ s e. List·Memᴰ·tail (dead-closed e)) unmarked onward d
-    where
-      unmarked : (s : ℕ) → DeadByReach h s → IsTerminal (x ∷ h) s → ⊥
-      unmarked s e m = ⊎-elim (λ q. unclosed (subst (λ (y : Update). IsClosed h (source y)) q (dead-closed e))) (λ q. e s here .1 q) (List·Memᴰ·cases-cons m)
-
-      onward : (u v : ℕ) → IsStep (x ∷ h) u v → DeadByReach h u → DeadByReach h v
-      onward u v m e = ⊎-elim (λ q. absurd (unclosed (subst (λ (y : Update). IsClosed h (source y)) q (dead-closed e)))) (λ q. dead-target q e) (List·Memᴰ·cases-cons m)
+  dead-kept = dead-continued (x ∷ []) h (tt, unclosed)
 
   dead-was : {s : ℕ} → DeadByReach (x ∷ h) s → DeadByReach h s
   dead-was d v p =

@@ -1,6 +1,6 @@
 -- Chains of successors, and the pigeonhole lemma behind "within n−1 steps".
 -- Assumes nothing.
-use mathlib.Core.Path.{_≡_, refl, sym, ap, subst}
+use mathlib.Core.Path.{_≡_, refl, sym, _∙_, ap, subst}
 use mathlib.Core.Logic.{_⊎_, inl, inr, ⊎-elim}
 use mathlib.Core.List.{List, [], _∷_, List·Memᴰ, List·Memᴰ·head, List·Memᴰ·tail, List·Memᴰ·cases-cons, List·Memᴰ·not-nil, List·Memᴰ·eq-of-singleton, Memᴰ·cast}
 use Prim.Native.Nat.{ℕ, zero, suc, _-_, _<_, _≤_}
@@ -60,6 +60,16 @@ gone n (x ∷ l) u m = at (ℕ-discrete x n) (gone n l (u .1)) m
     at (yes e) i m = u .0 (Memᴰ·cast e m)
     at (no d) i m = ⊎-elim (λ e. d (sym e)) i (List·Memᴰ·cases-cons m)
 
+-- whether a number stands in a list
+member : (n : ℕ) (l : List ℕ) → Dec (List·Memᴰ n l)
+member n [] = no List·Memᴰ·not-nil
+member n (x ∷ l) = at (ℕ-discrete n x) (member n l)
+  where
+    at : Dec (n ≡ x) → Dec (List·Memᴰ n l) → Dec (List·Memᴰ n (x ∷ l))
+    at (yes e) d = yes (List·Memᴰ·head e)
+    at (no e) (yes m) = yes (List·Memᴰ·tail m)
+    at (no e) (no k) = no (λ m. ⊎-elim e k (List·Memᴰ·cases-cons m))
+
 -- Pigeonhole: a list of distinct numbers below n has at most n entries.
 pub pigeonhole : (n : ℕ) (l : List ℕ) → Distinct l → ((s : ℕ) → List·Memᴰ s l → s < n) → length l ≤ n
 pigeonhole zero [] u b = omega arith
@@ -75,71 +85,95 @@ pigeonhole (suc n) l u b =
         at (yes e) = absurd (gone n l u (Memᴰ·cast (sym e) m))
         at (no d) = let h = b s (mem-without n l m) in omega arith
 
-module _ {Unknown Open : ℕ → Type 0} {next : ℕ → ℕ} (apart : (s : ℕ) → Unknown s → Open s → ⊥) where
-  -- a state has one chain
-  chain-length : {s j k : ℕ} → Chain Unknown Open next s j → Chain Unknown Open next s k → j ≡ k
-  chain-length (ends o) (ends o′) = refl
-  chain-length (ends o) (follows u c) = absurd (apart _ u o)
-  chain-length (follows u c) (ends o) = absurd (apart _ u o)
-  chain-length (follows u c) (follows u′ c′) = ap suc (chain-length c c′)
-
+module _ {Unknown Open : ℕ → Type 0} {Next : ℕ → ℕ → Type 0} where
   -- the states that a chain passes
-  passed : {s k : ℕ} → Chain Unknown Open next s k → List ℕ
+  passed : {s k : ℕ} → Chain Unknown Open Next s k → List ℕ
   passed (ends {s = s} o) = s ∷ []
-  passed (follows {s = s} u c) = s ∷ passed c
+  passed (follows {s = s} u e c) = s ∷ passed c
 
-  length-passed : {s k : ℕ} (c : Chain Unknown Open next s k) → length (passed c) ≡ suc k
+  length-passed : {s k : ℕ} (c : Chain Unknown Open Next s k) → length (passed c) ≡ suc k
   unfolding passed
   length-passed (ends o) = refl
-  length-passed (follows u c) = ap suc (length-passed c)
+  length-passed (follows u e c) = ap suc (length-passed c)
 
-  -- each of them has the rest of the chain
-  rest : {s k : ℕ} (c : Chain Unknown Open next s k) (t : ℕ) → List·Memᴰ t (passed c) → (j : ℕ) × (j ≤ k) × Chain Unknown Open next t j
+-- a chain that passes no state twice
+abbrev Simple : (Unknown Open : ℕ → Type 0) (Next : ℕ → ℕ → Type 0) → ℕ → Type 0
+Simple Unknown Open Next s = (k : ℕ) × (c : Chain Unknown Open Next s k) × Distinct (passed c)
+
+module _ {Unknown Open : ℕ → Type 0} {Next : ℕ → ℕ → Type 0} where
+  -- each state that it passes has the rest of it
+  rest : {s k : ℕ} (c : Chain Unknown Open Next s k) → Distinct (passed c) → (t : ℕ) → List·Memᴰ t (passed c) → Simple Unknown Open Next t
   unfolding passed
-  rest (ends {s = s} o) t m = (0, omega arith, ends (subst Open (sym (List·Memᴰ·eq-of-singleton m)) o))
-  rest {k = k} (follows {s = s} {k = i} u c) t m = at (rest c t) (List·Memᴰ·cases-cons m)
+  rest (ends {s = s} o) d t m = subst (Simple Unknown Open Next) (sym (List·Memᴰ·eq-of-singleton m)) (0, ends o, d)
+  rest (follows {s = s} {k = k} u e c) d t m = at (rest c (d .1) t) (List·Memᴰ·cases-cons m)
     where
-      at : (List·Memᴰ t (passed c) → (j : ℕ) × (j ≤ i) × Chain Unknown Open next t j) → (t ≡ s) ⊎ List·Memᴰ t (passed c) → (j : ℕ) × (j ≤ suc i) × Chain Unknown Open next t j
-      at r (inl e) = (suc i, omega arith, subst (λ (x : ℕ). Chain Unknown Open next x (suc i)) (sym e) (follows u c))
-      at r (inr m′) = let (j, b, d) = r m′ in (j, omega arith, d)
+      at : (List·Memᴰ t (passed c) → Simple Unknown Open Next t) → (t ≡ s) ⊎ List·Memᴰ t (passed c) → Simple Unknown Open Next t
+      at r (inl z) = subst (Simple Unknown Open Next) (sym z) (suc k, follows u e c, d)
+      at r (inr m′) = r m′
 
-  passed-distinct : {s k : ℕ} (c : Chain Unknown Open next s k) → Distinct (passed c)
+  -- whoever has a chain has such a one: where it comes back to a state, what lies between is left out
+  simple : {s k : ℕ} → Chain Unknown Open Next s k → Simple Unknown Open Next s
   unfolding passed
-  passed-distinct (ends o) = (List·Memᴰ·not-nil, tt)
-  passed-distinct (follows {s = s} {k = k} u c) = (once, passed-distinct c)
+  simple (ends o) = (0, ends o, (List·Memᴰ·not-nil, tt))
+  simple (follows {s = s} {t = t} u e c) = at (simple c)
     where
-      once : List·Memᴰ s (passed c) → ⊥
-      once m =
-          let (j, b, d) = rest c s m in
-          let e = chain-length d (follows u c) in
-          omega arith
+      at : Simple Unknown Open Next t → Simple Unknown Open Next s
+      at (k, d, q) = by (member s (passed d))
+        where
+          by : Dec (List·Memᴰ s (passed d)) → Simple Unknown Open Next s
+          by (yes m) = rest d q s m
+          by (no n) = (suc k, follows u e d, (n, q))
 
-  -- "reaches an open state within n−1 steps": over states below n, a chain has fewer than n steps.
-  pub chain-short : (n : ℕ) → ((s : ℕ) → Unknown s → s < n) → ((s : ℕ) → Open s → s < n) → {s k : ℕ} → Chain Unknown Open next s k → k < n
-  chain-short n bu bo {s} {k} c =
-      let h = pigeonhole n (passed c) (passed-distinct c) (λ t m. lower (rest c t m)) in
-      omega (arith, length-passed c)
+  -- "reaches an open state within n−1 steps": over states below n, there is a chain of fewer than n steps.
+  pub chain-short : (n : ℕ) → ((s : ℕ) → Unknown s → s < n) → ((s : ℕ) → Open s → s < n) → {s k : ℕ} → Chain Unknown Open Next s k → (j : ℕ) × (j < n) × Chain Unknown Open Next s j
+  unfolding passed
+  chain-short n bu bo c = at (simple c)
     where
-      first : {t j : ℕ} → Chain Unknown Open next t j → t < n
-      first (ends {s = t} o) = bo t o
-      first (follows {s = t} u c) = bu t u
+      inside : {t j : ℕ} (d : Chain Unknown Open Next t j) (r : ℕ) → List·Memᴰ r (passed d) → r < n
+      inside (ends {s = t} o) r m = subst (λ (x : ℕ). x < n) (sym (List·Memᴰ·eq-of-singleton m)) (bo t o)
+      inside (follows {s = t} u e d) r m = ⊎-elim (λ z. subst (λ (x : ℕ). x < n) (sym z) (bu t u)) (inside d r) (List·Memᴰ·cases-cons m)
 
-      lower : {t : ℕ} → (j : ℕ) × (j ≤ k) × Chain Unknown Open next t j → t < n
-      lower r = first (r .2)
+      at : {s : ℕ} → Simple Unknown Open Next s → (j : ℕ) × (j < n) × Chain Unknown Open Next s j
+      at (j, d, q) = (j, (let h = pigeonhole n (passed d) q (inside d) in omega (arith, length-passed d)), d)
 
--- The rule asks only that an open state is reached: that it is within n−1 steps follows.
+-- A chain through other sets, by another relation.
+pub chain-map :
+    {Unknown Open Unknown′ Open′ : ℕ → Type 0} {Next Next′ : ℕ → ℕ → Type 0} →
+    ((s : ℕ) → Open s → Open′ s) → ((s : ℕ) → Unknown s → Unknown′ s) → ((s t : ℕ) → Unknown s → Next s t → Next′ s t) →
+    {s k : ℕ} → Chain Unknown Open Next s k → Chain Unknown′ Open′ Next′ s k
+chain-map f g n (ends {s = s} o) = ends (f s o)
+chain-map f g n (follows {s = s} {t = t} u e c) = follows {t = t} (g s u) (n s t u e) (chain-map f g n c)
+
+-- The rule asks only that an open state is reached: that it is within n−1 steps follows, and so does the first step.
 pub successor-rule :
-    (n m : ℕ) (status from to successor : ℕ → ℕ) →
-    ((s : ℕ) → Having n status statusUnknown s → (successor s < m) × (from (successor s) ≡ s)) →
-    ((s : ℕ) → Having n status statusUnknown s → (k : ℕ) × Chain (Having n status statusUnknown) (Having n status statusOpen) (λ t. to (successor t)) s k) →
+    (n : ℕ) (Arc : ℕ → ℕ → ℕ → Type 0) (status successor : ℕ → ℕ) →
+    ((s : ℕ) → Having n status statusUnknown s → (k : ℕ) × Chain (Having n status statusUnknown) (Having n status statusOpen) (λ r t. Arc r (successor r) t) s k) →
     ((s : ℕ) → s < n → (status s ≡ statusUnknown → ⊥) → successor s ≡ noSuccessor) →
-    SuccessorRule n m status from to successor
-successor-rule n m status from to successor l e o = record { listed = l; escapes = λ s u. bound s u (e s u); others = o }
+    SuccessorRule n Arc status successor
+successor-rule n Arc status successor e o = record { listed = λ s u. first u (e s u .1); escapes = λ s u. bound (e s u .1); others = o }
   where
-    bound : (s : ℕ) → Having n status statusUnknown s → (k : ℕ) × Chain (Having n status statusUnknown) (Having n status statusOpen) (λ t. to (successor t)) s k → (k : ℕ) × (k ≤ n - 1) × Chain (Having n status statusUnknown) (Having n status statusOpen) (λ t. to (successor t)) s k
-    bound s u (k, c) =
-        let h = chain-short {next = λ t. to (successor t)} (λ t a b. apart (a .1) (b .1)) n (λ t a. a .0) (λ t a. a .0) c in
-        (k, omega arith, c)
-      where
-        apart : {x : ℕ} → x ≡ statusUnknown → x ≡ statusOpen → ⊥
-        apart p q = omega arith
+    first : {s k : ℕ} → Having n status statusUnknown s → Chain (Having n status statusUnknown) (Having n status statusOpen) (λ r t. Arc r (successor r) t) s k → (t : ℕ) × Arc s (successor s) t
+    first u (ends a) = absurd (omega (arith, u .1, a .1))
+    first u (follows {t = t} v a c) = (t, a)
+
+    bound : {s k : ℕ} → Chain (Having n status statusUnknown) (Having n status statusOpen) (λ r t. Arc r (successor r) t) s k → (j : ℕ) × (j ≤ n - 1) × Chain (Having n status statusUnknown) (Having n status statusOpen) (λ r t. Arc r (successor r) t) s j
+    bound c =
+        let h = chain-short {Next = λ r t. Arc r (successor r) t} n (λ t a. a .0) (λ t a. a .0) c in
+        (h .0, omega (arith, h .1), h .2)
+
+-- The rule with the listed steps said in another way, and with equal statuses.
+pub same-rule :
+    (n : ℕ) (Arc Arc′ : ℕ → ℕ → ℕ → Type 0) (status status′ successor : ℕ → ℕ) → ((s p t : ℕ) → Arc s p t → Arc′ s p t) → ((s : ℕ) → s < n → status′ s ≡ status s) →
+    SuccessorRule n Arc status successor → SuccessorRule n Arc′ status′ successor
+same-rule n Arc Arc′ status status′ successor f e r =
+    record {
+      listed = λ s u. let q = r .listed s (old s u) in (q .0, f s (successor s) (q .0) (q .1));
+      escapes = λ s u. let q = r .escapes s (old s u) in (q .0, q .1, chain-map {Next′ = λ v t. Arc′ v (successor v) t} (λ v o. new v o) (λ v o. new v o) (λ v t x a. f v (successor v) t a) (q .2));
+      others = λ s h d. r .others s h (λ z. d (e s h ∙ z));
+    }
+  where
+    old : (s : ℕ) → {k : ℕ} → Having n status′ k s → Having n status k s
+    old s q = (q .0, sym (e s (q .0)) ∙ q .1)
+
+    new : (s : ℕ) → {k : ℕ} → Having n status k s → Having n status′ k s
+    new s q = (q .0, e s (q .0) ∙ q .1)

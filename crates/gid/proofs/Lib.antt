@@ -1,7 +1,9 @@
 -- The laws of the definitions.
 pub mod Decide
+pub mod Systems
 pub mod Paths
 pub mod Tests
+pub mod Listing
 pub mod Deadness
 pub mod After
 pub mod Statuses
@@ -9,3 +11,4 @@ pub mod News
 pub mod Chains
 pub mod Pruning
 pub mod Examples
+pub mod Worked

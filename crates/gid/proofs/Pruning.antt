@@ -1,22 +1,25 @@
 -- Pruning changes no verdict: the heart of demand 3, on histories.
 -- Assumes nothing.
 use mathlib.Core.Path.{_≡_, refl, sym, _∙_, subst}
-use mathlib.Core.Logic.{_⊎_, inl, inr, ⊎-elim}
+use mathlib.Core.Logic.{⊎-elim}
 use mathlib.Core.Bool.{Bool, true, false, not, _&&_, _||_}
 use mathlib.Core.List.{[], _∷_, List·Memᴰ·head, List·Memᴰ·tail, List·Memᴰ·cases-cons}
 use Prim.Native.Nat.{ℕ}
 use Rattle.gid.specs.declared.Update.{Update}
 use Rattle.gid.specs.declared.Update.the-variants.{Step, Terminal, Close}
-use Rattle.gid.specs.Updates.{source}
-use Rattle.gid.specs.Histories.{History, Has, IsStep, IsTerminal, IsNamed, Legal}
-use Rattle.gid.specs.Verdicts.{Reaches, here, along, Live, DeadByReach}
+use Rattle.gid.specs.Updates.{edge, source}
+use Rattle.gid.specs.Histories.{History, Has, IsNamed, Legal}
+use Rattle.gid.specs.Verdicts.{Live}
+use Rattle.gid.specs.Systems.{Prunes, system}
 use Rattle.gid.specs.Statuses.{isLive, isDead, isClosed, isNamed, status}
 use Rattle.gid.specs.News.{settles, news}
 use Rattle.gid.specs.Pruning.{Pruned, start, keep, leave, Agrees}
-use Rattle.gid.proofs.Decide.{decided, refuted, same-test}
-use Rattle.gid.proofs.Paths.{Inside, path-within, within-newer, join}
+use Rattle.gid.proofs.Decide.{decided, refuted, same-test, decides-iff}
+use Rattle.gid.proofs.Paths.{Inside, within-newer}
 use Rattle.gid.proofs.Tests.{decides-live, decides-dead, decides-closed, decides-named}
-use Rattle.gid.proofs.Deadness.{live-within, live-terminal, live-source, dead-closed, dead-target, dead-greatest, dead-not-live}
+use Rattle.gid.proofs.Systems.{live-carried, dead-pruned, dead-full}
+use Rattle.gid.proofs.Listing.{within-steps}
+use Rattle.gid.proofs.Deadness.{live-within, live-system, dead-system}
 use Rattle.gid.proofs.News.{below-same, below-none}
 
 -- What holds of the full history f and the pruned one p all along: p is part of f, what was sent from a state that is not live in f is in p, and what is live in f is live in p.
@@ -28,13 +31,19 @@ pub record Keeps (f p : History) : Type 0 where
 keeps-start : Keeps [] []
 keeps-start = record { part = λ x m. m; kept = λ x m n. m; live = λ s l. l }
 
+-- what is live in f carries over to g, where g has what x ∷ f has from states that were not live
+carried : {f g : History} (x : Update) → ((s : ℕ) → Live f s → Live g s) → ((y : Update) → (Live f (source y) → ⊥) → Has (x ∷ f) y → Has g y) → {s : ℕ} → Live (x ∷ f) s → Live g s
+carried {f} {g} x o k l =
+    live-system g .1
+    (live-carried (system f) (system (x ∷ f)) (system g) (λ s. decided (isLive f s) (decides-iff (decides-live f s) (live-system f .0) (live-system f .1)))
+    (λ s q. live-system g .0 (o s (live-system f .1 q)))
+    (λ s n t. k (Terminal s) (λ q. n (live-system f .0 q)) t)
+    (λ s n. within-steps (x ∷ f) g s (λ t m. k (Step (edge s t)) (λ q. n (live-system f .0 q)) m))
+    (live-system (x ∷ f) .0 l))
+
 -- an update sent from a live state makes no state live
 pub live-before : {f : History} {x : Update} → Live f (source x) → {s : ℕ} → Live (x ∷ f) s → Live f s
-live-before {f} {x} l (v, p, t) = back p (⊎-elim (λ e. subst (λ (y : Update). Live f (source y)) (sym e) l) live-terminal (List·Memᴰ·cases-cons t))
-  where
-    back : {u w : ℕ} → Reaches (x ∷ f) u w → Live f w → Live f u
-    back here q = q
-    back {u} (along {v = v} m p) q = ⊎-elim (λ e. subst (λ (y : Update). Live f (source y)) (sym e) l) (λ m′. live-source m′ (back p q)) (List·Memᴰ·cases-cons m)
+live-before {f} {x} l = carried x (λ s q. q) (λ y n m. ⊎-elim (λ e. absurd (n (subst (λ (z : Update). Live f (source z)) (sym e) l))) (λ q. q) (List·Memᴰ·cases-cons m))
 
 keeps-leave : {f p : History} (x : Update) → Live f (source x) → Keeps f p → Keeps (x ∷ f) p
 keeps-leave {f} {p} x l k =
@@ -46,26 +55,8 @@ keeps-leave {f} {p} x l k =
 
 -- what was live, or is live by an update of p's, is live in p
 live-after : {f p : History} (x : Update) → Keeps f p → {s : ℕ} → Live (x ∷ f) s → Live (x ∷ p) s
-live-after {f} {p} x k (v, r, t) = back r (end (List·Memᴰ·cases-cons t))
-  where
-    old : {s : ℕ} → Live f s → Live (x ∷ p) s
-    old {s} l = live-within (within-newer x) (k .live s l)
-
-    end : (Terminal v ≡ x) ⊎ IsTerminal f v → Live (x ∷ p) v
-    end (inl e) = live-terminal (List·Memᴰ·head e)
-    end (inr m) = old (live-terminal m)
-
-    older : {u w : ℕ} → Dec (Live f u) → IsStep f u w → Live (x ∷ p) w → Live (x ∷ p) u
-    older (yes l) m q = old l
-    older (no n) m q = live-source (List·Memᴰ·tail (k .kept (Step _ _) m n)) q
-
-    first : {u w : ℕ} → (Step u w ≡ x) ⊎ IsStep f u w → Live (x ∷ p) w → Live (x ∷ p) u
-    first (inl e) q = live-source (List·Memᴰ·head e) q
-    first {u} (inr m) q = older (decided (isLive f u) (decides-live f u)) m q
-
-    back : {u w : ℕ} → Reaches (x ∷ f) u w → Live (x ∷ p) w → Live (x ∷ p) u
-    back here q = q
-    back (along m r) q = first (List·Memᴰ·cases-cons m) (back r q)
+live-after x k =
+    carried x (λ s q. live-within (within-newer x) (k .live s q)) (λ y n m. ⊎-elim (λ e. List·Memᴰ·head e) (λ q. List·Memᴰ·tail (k .kept y q n)) (List·Memᴰ·cases-cons m))
 
 keeps-keep : {f p : History} (x : Update) → Keeps f p → Keeps (x ∷ f) (x ∷ p)
 keeps-keep {f} {p} x k =
@@ -81,24 +72,28 @@ keeps (keep x c) = keeps-keep x (keeps c)
 keeps (leave x l c) = keeps-leave x l (keeps c)
 
 module _ {f p : History} (k : Keeps f p) where
+  -- The system of the one prunes that of the other.
+  prunes : Prunes (system f) (system p)
+  prunes =
+      record {
+        arcs = λ s. within-steps p f s (λ t m. k .part (Step (edge s t)) m);
+        goals = λ s m. k .part (Terminal s) m;
+        finals = λ s m. k .part (Close s) m;
+        keptArcs = λ s n. within-steps f p s (λ t m. k .kept (Step (edge s t)) m (λ l. n (live-system f .0 l)));
+        keptFinals = λ s n m. k .kept (Close s) m (λ l. n (live-system f .0 l));
+        live = λ s l. live-system p .0 (k .live s (live-system f .1 l));
+      }
+
   -- Live in the one is live in the other.
   pub same-live : (s : ℕ) → isLive f s ≡ isLive p s
   same-live s = same-test (isLive f s) (isLive p s) (decides-live f s) (decides-live p s) (k .live s) (live-within (k .part))
 
-  dead-pruned : {s : ℕ} → DeadByReach f s → DeadByReach p s
-  dead-pruned d v r =
-      let q = path-within (k .part) r in
-      (k .kept (Close v) (d v q .0) (dead-not-live (λ w a. d w (join q a))), λ t. d v q .1 (k .part (Terminal v) t))
-
-  dead-full : {s : ℕ} → DeadByReach p s → DeadByReach f s
-  dead-full d =
-      dead-greatest (DeadByReach p) (λ s e. k .part (Close s) (dead-closed e)) (λ s e t. dead-not-live e (k .live s (live-terminal t)))
-      (λ u v m e. dead-target (k .kept (Step u v) m (λ l. dead-not-live e (k .live u l))) e)
-      d
-
   -- Dead in the one is dead in the other.
   pub same-dead : (s : ℕ) → isDead f s ≡ isDead p s
-  same-dead s = same-test (isDead f s) (isDead p s) (decides-dead f s) (decides-dead p s) dead-pruned dead-full
+  same-dead s =
+      same-test (isDead f s) (isDead p s) (decides-dead f s) (decides-dead p s)
+      (λ d. dead-system p .1 (dead-pruned (system f) (system p) prunes (dead-system f .0 d)))
+      (λ d. dead-system f .1 (dead-full (system f) (system p) prunes (dead-system p .0 d)))
 
   -- A state that the pruned history has named has the same status in both.
   pub same-status : (s : ℕ) → IsNamed p s → status f s ≡ status p s

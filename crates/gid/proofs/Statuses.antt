@@ -7,6 +7,7 @@ use mathlib.Core.List.{List·Memᴰ}
 use Prim.Native.Nat.{ℕ}
 use native.Mathlib.Omega.{arith}
 use Rattle.gid.specs.declared.Update.the-variants.{Step, Terminal, Close}
+use Rattle.gid.specs.Updates.{edge}
 use Rattle.gid.specs.Histories.{History, IsClosed, IsNamed, Legal}
 use Rattle.gid.specs.Verdicts.{Reaches, here, along, Live, Dead, DeadByReach}
 use Rattle.gid.specs.Statuses.{isLive, isDead, isClosed, isNamed, status, statusUnseen, statusOpen, statusUnknown, statusLive, statusDead}
@@ -19,7 +20,7 @@ live-named {h} {s} (v, p, t) = first p t
   where
     first : {u w : ℕ} → Reaches h u w → List·Memᴰ (Terminal w) h → IsNamed h u
     first {u} here t = (Terminal u, t, refl)
-    first {u} (along {v = v} m p) t = (Step u v, m, inl refl)
+    first {u} (along {v = v} m p) t = (Step (edge u v), m, inl refl)
 
 pub closed-named : {h : History} {s : ℕ} → IsClosed h s → IsNamed h s
 closed-named {s = s} c = (Close s, c, refl)

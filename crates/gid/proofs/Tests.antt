@@ -1,15 +1,16 @@
 -- The computed tests of specs/Statuses.antt decide the statements of specs/Histories.antt and specs/Verdicts.antt.
 -- Assumes nothing.
-use mathlib.Core.Path.{_≡_, refl, sym, subst}
+use mathlib.Core.Path.{_≡_, refl, sym, ap, subst}
 use mathlib.Core.Logic.{_⊎_, inl, inr, ⊎-elim}
 use mathlib.Core.Bool.{Bool, _&&_, _||_, not}
 use mathlib.Core.List.{[], _∷_, List·Memᴰ·head, List·Memᴰ·tail, List·Memᴰ·cases-cons, List·Memᴰ·not-nil}
 use Prim.Native.Nat.{ℕ}
 use native.Mathlib.Omega.{arith}
 use lib.Dec.{eqb}
+use Rattle.gid.specs.declared.Edge.{Edge}
 use Rattle.gid.specs.declared.Update.{Update}
 use Rattle.gid.specs.declared.Update.the-variants.{Step, Terminal, Close}
-use Rattle.gid.specs.Updates.{Mentions}
+use Rattle.gid.specs.Updates.{edge, Mentions}
 use Rattle.gid.specs.Histories.{History, Has, IsStep, IsTerminal, IsClosed, IsNamed}
 use Rattle.gid.specs.Verdicts.{Reaches, here, along, Live, DeadByReach}
 use Rattle.gid.specs.Statuses.{isNamed, isTerminal, isClosed, reaches, reachesMark, isLive, isStuck, reachesStuck, isDead}
@@ -17,11 +18,11 @@ use Rattle.gid.proofs.Decide.{Decides, decided, decides-iff, decides-eq
 use Rattle.gid.proofs.Paths.{path-within, within-newer, join, split, unsplit}
 
 -- no update is of two kinds
-pub step-terminal : (u v s : ℕ) → Step u v ≡ Terminal s → ⊥
-step-terminal u v s e = let z : _≡_ {A = ℕ} 0 1 = cc in omega arith
+pub step-terminal : (e : Edge) (s : ℕ) → Step e ≡ Terminal s → ⊥
+step-terminal e s q = let z : _≡_ {A = ℕ} 0 1 = cc in omega arith
 
-pub step-close : (u v s : ℕ) → Step u v ≡ Close s → ⊥
-step-close u v s e = let z : _≡_ {A = ℕ} 0 1 = cc in omega arith
+pub step-close : (e : Edge) (s : ℕ) → Step e ≡ Close s → ⊥
+step-close e s q = let z : _≡_ {A = ℕ} 0 1 = cc in omega arith
 
 pub terminal-close : (u s : ℕ) → Terminal u ≡ Close s → ⊥
 terminal-close u s e = let z : _≡_ {A = ℕ} 0 1 = cc in omega arith
@@ -38,7 +39,7 @@ meets {h} {b} {c} y x d e =
 pub decides-terminal : (h : History) (s : ℕ) → Decides (isTerminal h s) (IsTerminal h s)
 unfolding isTerminal
 decides-terminal [] s = decides-false List·Memᴰ·not-nil
-decides-terminal (Step u v ∷ h) s = skips (Step u v) (Terminal s) (λ e. step-terminal u v s (sym e)) (decides-terminal h s)
+decides-terminal (Step e ∷ h) s = skips (Step e) (Terminal s) (λ q. step-terminal e s (sym q)) (decides-terminal h s)
 decides-terminal (Terminal u ∷ h) s =
     meets (Terminal u) (Terminal s) (decides-iff (decides-eq u s) (λ e. cc) (λ e. cc)) (decides-terminal h s)
 decides-terminal (Close u ∷ h) s = skips (Close u) (Terminal s) (terminal-close s u) (decides-terminal h s)
@@ -46,7 +47,7 @@ decides-terminal (Close u ∷ h) s = skips (Close u) (Terminal s) (terminal-clos
 pub decides-closed : (h : History) (s : ℕ) → Decides (isClosed h s) (IsClosed h s)
 unfolding isClosed
 decides-closed [] s = decides-false List·Memᴰ·not-nil
-decides-closed (Step u v ∷ h) s = skips (Step u v) (Close s) (λ e. step-close u v s (sym e)) (decides-closed h s)
+decides-closed (Step e ∷ h) s = skips (Step e) (Close s) (λ q. step-close e s (sym q)) (decides-closed h s)
 decides-closed (Terminal u ∷ h) s = skips (Terminal u) (Close s) (λ e. terminal-close u s (sym e)) (decides-closed h s)
 decides-closed (Close u ∷ h) s = meets (Close u) (Close s) (decides-iff (decides-eq u s) (λ e. cc) (λ e. cc)) (decides-closed h s)
 
@@ -68,8 +69,8 @@ names {h} {b} {c} y s d e = decides-iff (decides-or b c d e) to of
 pub decides-named : (h : History) (s : ℕ) → Decides (isNamed h s) (IsNamed h s)
 unfolding isNamed
 decides-named [] s = decides-false (λ m. List·Memᴰ·not-nil (m .1))
-decides-named (Step u v ∷ h) s =
-    names (Step u v) s (decides-or (eqb u s) (eqb v s) (decides-eq u s) (decides-eq v s)) (decides-named h s)
+decides-named (Step e ∷ h) s =
+    names (Step e) s (decides-or (eqb (e .from) s) (eqb (e .to) s) (decides-eq (e .from) s) (decides-eq (e .to) s)) (decides-named h s)
 decides-named (Terminal u ∷ h) s = names (Terminal u) s (decides-eq u s) (decides-named h s)
 decides-named (Close u ∷ h) s = names (Close u) s (decides-eq u s) (decides-named h s)
 
@@ -81,21 +82,21 @@ stays (along m p) = absurd (List·Memᴰ·not-nil m)
 pub decides-reaches : (h : History) (u w : ℕ) → Decides (reaches h u w) (Reaches h u w)
 unfolding reaches
 decides-reaches [] u w = decides-iff (decides-eq u w) (λ e. subst (λ (x : ℕ). Reaches [] u x) e here) stays
-decides-reaches (Step a b ∷ h) u w =
+decides-reaches (Step e ∷ h) u w =
     decides-iff
-    (decides-or (reaches h u w) (reaches h u a && reaches h b w) (decides-reaches h u w)
-    (decides-and (reaches h u a) (reaches h b w) (decides-reaches h u a) (decides-reaches h b w)))
+    (decides-or (reaches h u w) (reaches h u (e .from) && reaches h (e .to) w) (decides-reaches h u w)
+    (decides-and (reaches h u (e .from)) (reaches h (e .to) w) (decides-reaches h u (e .from)) (decides-reaches h (e .to) w)))
     through
-    split
+    (split e)
   where
-    through : Reaches h u w ⊎ (Reaches h u a × Reaches h b w) → Reaches (Step a b ∷ h) u w
-    through (inl p) = path-within (within-newer (Step a b)) p
+    through : Reaches h u w ⊎ (Reaches h u (e .from) × Reaches h (e .to) w) → Reaches (Step e ∷ h) u w
+    through (inl p) = path-within (within-newer (Step e)) p
     through (inr p) =
-        join (path-within (within-newer (Step a b)) (p .0)) (along (List·Memᴰ·head refl) (path-within (within-newer (Step a b)) (p .1)))
+        join (path-within (within-newer (Step e)) (p .0)) (along (List·Memᴰ·head refl) (path-within (within-newer (Step e)) (p .1)))
 decides-reaches (Terminal a ∷ h) u w =
-    decides-iff (decides-reaches h u w) (path-within (within-newer (Terminal a))) (unsplit (Terminal a) (λ x y. step-terminal x y a))
+    decides-iff (decides-reaches h u w) (path-within (within-newer (Terminal a))) (unsplit (Terminal a) (λ e. step-terminal e a))
 decides-reaches (Close a ∷ h) u w =
-    decides-iff (decides-reaches h u w) (path-within (within-newer (Close a))) (unsplit (Close a) (λ x y. step-close x y a))
+    decides-iff (decides-reaches h u w) (path-within (within-newer (Close a))) (unsplit (Close a) (λ e. step-close e a))
 
 -- s reaches, by g's steps, a state that h marks terminal
 abbrev ReachesMark : History → ℕ → History → Type 0
@@ -110,7 +111,7 @@ mark-older g s {h} y n d = decides-iff d (λ m. (m .0, m .1, List·Memᴰ·tail 
 decides-mark : (g : History) (s : ℕ) (h : History) → Decides (reachesMark g s h) (ReachesMark g s h)
 unfolding reachesMark
 decides-mark g s [] = decides-false (λ m. List·Memᴰ·not-nil (m .2))
-decides-mark g s (Step a b ∷ h) = mark-older g s (Step a b) (λ v e. step-terminal a b v (sym e)) (decides-mark g s h)
+decides-mark g s (Step e ∷ h) = mark-older g s (Step e) (λ v q. step-terminal e v (sym q)) (decides-mark g s h)
 decides-mark g s (Terminal v ∷ h) =
     decides-iff (decides-or (reaches g s v) (reachesMark g s h) (decides-reaches g s v) (decides-mark g s h)) to of
   where
@@ -143,44 +144,44 @@ decides-stuck h v =
 abbrev ReachesStuck : History → ℕ → History → Type 0
 ReachesStuck g s h = Stuck g s × ((a b : ℕ) → IsStep h a b → Reaches g s b → Stuck g b)
 
-stuck-older : (g : History) (s : ℕ) {h : History} (y : Update) → ((u v : ℕ) → Step u v ≡ y → ⊥) → {b : Bool} → Decides b (ReachesStuck g s h) → Decides b (ReachesStuck g s (y ∷ h))
+stuck-older : (g : History) (s : ℕ) {h : History} (y : Update) → ((e : Edge) → Step e ≡ y → ⊥) → {b : Bool} → Decides b (ReachesStuck g s h) → Decides b (ReachesStuck g s (y ∷ h))
 stuck-older g s {h} y n d = decides-iff d to (λ r. (r .0, λ a b m. r .1 a b (List·Memᴰ·tail m)))
   where
     to : ReachesStuck g s h → ReachesStuck g s (y ∷ h)
-    to r = (r .0, λ a b m. ⊎-elim (λ e. absurd (n a b e)) (λ m′. r .1 a b m′) (List·Memᴰ·cases-cons m))
+    to r = (r .0, λ a b m. ⊎-elim (λ e. absurd (n (edge a b) e)) (λ m′. r .1 a b m′) (List·Memᴰ·cases-cons m))
 
 decides-reaches-stuck : (g : History) (s : ℕ) (h : History) → Decides (reachesStuck g s h) (ReachesStuck g s h)
 unfolding reachesStuck
 decides-reaches-stuck g s [] = decides-iff (decides-stuck g s) (λ p. (p, λ a b m. absurd (List·Memᴰ·not-nil m))) (λ r. r .0)
-decides-reaches-stuck g s (Step a b ∷ h) =
+decides-reaches-stuck g s (Step e ∷ h) =
     decides-iff
-    (decides-and (not (reaches g s b) || isStuck g b) (reachesStuck g s h)
-    (decides-or (not (reaches g s b)) (isStuck g b) (decides-not (reaches g s b) (decides-reaches g s b)) (decides-stuck g b))
+    (decides-and (not (reaches g s (e .to)) || isStuck g (e .to)) (reachesStuck g s h)
+    (decides-or (not (reaches g s (e .to))) (isStuck g (e .to)) (decides-not (reaches g s (e .to)) (decides-reaches g s (e .to))) (decides-stuck g (e .to)))
     (decides-reaches-stuck g s h))
     to
     of
   where
-    at : {b′ : ℕ} → b′ ≡ b → ((Reaches g s b → ⊥) ⊎ Stuck g b) → Reaches g s b′ → Stuck g b′
-    at e (inl n) p = absurd (n (subst (λ (x : ℕ). Reaches g s x) e p))
-    at e (inr k) p = subst (λ (x : ℕ). Stuck g x) (sym e) k
+    at : {b : ℕ} → b ≡ e .to → ((Reaches g s (e .to) → ⊥) ⊎ Stuck g (e .to)) → Reaches g s b → Stuck g b
+    at q (inl n) p = absurd (n (subst (λ (x : ℕ). Reaches g s x) q p))
+    at q (inr k) p = subst (λ (x : ℕ). Stuck g x) (sym q) k
 
-    to : ((Reaches g s b → ⊥) ⊎ Stuck g b) × ReachesStuck g s h → ReachesStuck g s (Step a b ∷ h)
+    to : ((Reaches g s (e .to) → ⊥) ⊎ Stuck g (e .to)) × ReachesStuck g s h → ReachesStuck g s (Step e ∷ h)
     to r = (
       r .1 .0,
-      λ a′ b′ m. ⊎-elim (λ e. at (let q : b′ ≡ b = cc in q) (r .0)) (λ m′. r .1 .1 a′ b′ m′) (List·Memᴰ·cases-cons m),
+      λ a b m. ⊎-elim (λ z. at (let d : edge a b ≡ e = cc in ap (λ (x : Edge). x .to) d) (r .0)) (λ m′. r .1 .1 a b m′) (List·Memᴰ·cases-cons m),
     )
 
-    either : Dec (Reaches g s b) → (Reaches g s b → Stuck g b) → (Reaches g s b → ⊥) ⊎ Stuck g b
+    either : Dec (Reaches g s (e .to)) → (Reaches g s (e .to) → Stuck g (e .to)) → (Reaches g s (e .to) → ⊥) ⊎ Stuck g (e .to)
     either (yes p) f = inr (f p)
     either (no n) f = inl n
 
-    of : ReachesStuck g s (Step a b ∷ h) → ((Reaches g s b → ⊥) ⊎ Stuck g b) × ReachesStuck g s h
+    of : ReachesStuck g s (Step e ∷ h) → ((Reaches g s (e .to) → ⊥) ⊎ Stuck g (e .to)) × ReachesStuck g s h
     of r = (
-      either (decided (reaches g s b) (decides-reaches g s b)) (r .1 a b (List·Memᴰ·head refl)),
-      (r .0, λ a′ b′ m. r .1 a′ b′ (List·Memᴰ·tail m)),
+      either (decided (reaches g s (e .to)) (decides-reaches g s (e .to))) (r .1 (e .from) (e .to) (List·Memᴰ·head refl)),
+      (r .0, λ a b m. r .1 a b (List·Memᴰ·tail m)),
     )
-decides-reaches-stuck g s (Terminal a ∷ h) = stuck-older g s (Terminal a) (λ u v. step-terminal u v a) (decides-reaches-stuck g s h)
-decides-reaches-stuck g s (Close a ∷ h) = stuck-older g s (Close a) (λ u v. step-close u v a) (decides-reaches-stuck g s h)
+decides-reaches-stuck g s (Terminal a ∷ h) = stuck-older g s (Terminal a) (λ e. step-terminal e a) (decides-reaches-stuck g s h)
+decides-reaches-stuck g s (Close a ∷ h) = stuck-older g s (Close a) (λ e. step-close e a) (decides-reaches-stuck g s h)
 
 -- a path is empty, or ends in the target of a step
 last-step : {h : History} {s v : ℕ} → Reaches h s v → (s ≡ v) ⊎ ((a : ℕ) × IsStep h a v)

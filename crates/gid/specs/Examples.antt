@@ -4,6 +4,7 @@ use mathlib.Core.List.{List, [], _∷_}
 use Prim.Native.Nat.{ℕ}
 use Rattle.gid.specs.declared.Update.{Update}
 use Rattle.gid.specs.declared.Update.the-variants.{Step, Terminal, Close}
+use Rattle.gid.specs.Updates.{edge}
 use Rattle.gid.specs.Statuses.{status}
 use Rattle.gid.specs.Outcomes.{Outcome, refused, accepted, outcome, after, afterAll}
 
@@ -25,6 +26,9 @@ seen c =
     let g = after 3 (c .limit) h (c .last) in
     record { outcome = outcome 3 (c .limit) h (c .last); statuses = status g 0 ∷ status g 1 ∷ status g 2 ∷ [] }
 
+abbrev step : ℕ → ℕ → Update
+step u v = Step (edge u v)
+
 abbrev at : ℕ → List Update → Update → Outcome (List ℕ) → List ℕ → Case
 at limit before last o s = record { limit = limit; before = before; last = last; expected = record { outcome = o; statuses = s } }
 
@@ -33,32 +37,32 @@ cases =
     -- 1. C 0: news 0 dead.
     at 4 [] (Close 0) (accepted (0 ∷ [])) (4 ∷ 0 ∷ 0 ∷ []) ∷
     -- 2. E 0 0, C 0: news 0 dead at the close.
-    at 4 (Step 0 0 ∷ []) (Close 0) (accepted (0 ∷ [])) (4 ∷ 0 ∷ 0 ∷ []) ∷
+    at 4 (step 0 0 ∷ []) (Close 0) (accepted (0 ∷ [])) (4 ∷ 0 ∷ 0 ∷ []) ∷
     -- 3. E 0 1, E 1 0, C 0: status 2, 1, 0.
-    at 4 (Step 0 1 ∷ Step 1 0 ∷ []) (Close 0) (accepted []) (2 ∷ 1 ∷ 0 ∷ []) ∷
+    at 4 (step 0 1 ∷ step 1 0 ∷ []) (Close 0) (accepted []) (2 ∷ 1 ∷ 0 ∷ []) ∷
     -- 4. Then C 1: news 0 and 1, dead.
-    at 4 (Step 0 1 ∷ Step 1 0 ∷ Close 0 ∷ []) (Close 1) (accepted (0 ∷ 1 ∷ [])) (4 ∷ 4 ∷ 0 ∷ []) ∷
+    at 4 (step 0 1 ∷ step 1 0 ∷ Close 0 ∷ []) (Close 1) (accepted (0 ∷ 1 ∷ [])) (4 ∷ 4 ∷ 0 ∷ []) ∷
     -- 5. E 0 1, E 1 0, E 1 2, C 0, C 1: no news, status 2, 2, 1. No update of the five has news.
-    at 4 [] (Step 0 1) (accepted []) (1 ∷ 1 ∷ 0 ∷ []) ∷
-    at 4 (Step 0 1 ∷ []) (Step 1 0) (accepted []) (1 ∷ 1 ∷ 0 ∷ []) ∷
-    at 4 (Step 0 1 ∷ Step 1 0 ∷ []) (Step 1 2) (accepted []) (1 ∷ 1 ∷ 1 ∷ []) ∷
-    at 4 (Step 0 1 ∷ Step 1 0 ∷ Step 1 2 ∷ []) (Close 0) (accepted []) (2 ∷ 1 ∷ 1 ∷ []) ∷
-    at 4 (Step 0 1 ∷ Step 1 0 ∷ Step 1 2 ∷ Close 0 ∷ []) (Close 1) (accepted []) (2 ∷ 2 ∷ 1 ∷ []) ∷
+    at 4 [] (step 0 1) (accepted []) (1 ∷ 1 ∷ 0 ∷ []) ∷
+    at 4 (step 0 1 ∷ []) (step 1 0) (accepted []) (1 ∷ 1 ∷ 0 ∷ []) ∷
+    at 4 (step 0 1 ∷ step 1 0 ∷ []) (step 1 2) (accepted []) (1 ∷ 1 ∷ 1 ∷ []) ∷
+    at 4 (step 0 1 ∷ step 1 0 ∷ step 1 2 ∷ []) (Close 0) (accepted []) (2 ∷ 1 ∷ 1 ∷ []) ∷
+    at 4 (step 0 1 ∷ step 1 0 ∷ step 1 2 ∷ Close 0 ∷ []) (Close 1) (accepted []) (2 ∷ 2 ∷ 1 ∷ []) ∷
     -- 6. Case 5, then C 2: news 0, 1, 2, dead.
-    at 4 (Step 0 1 ∷ Step 1 0 ∷ Step 1 2 ∷ Close 0 ∷ Close 1 ∷ []) (Close 2) (accepted (0 ∷ 1 ∷ 2 ∷ [])) (4 ∷ 4 ∷ 4 ∷ []) ∷
+    at 4 (step 0 1 ∷ step 1 0 ∷ step 1 2 ∷ Close 0 ∷ Close 1 ∷ []) (Close 2) (accepted (0 ∷ 1 ∷ 2 ∷ [])) (4 ∷ 4 ∷ 4 ∷ []) ∷
     -- 7. Case 5, then T 2: news 0, 1, 2, live.
-    at 4 (Step 0 1 ∷ Step 1 0 ∷ Step 1 2 ∷ Close 0 ∷ Close 1 ∷ []) (Terminal 2) (accepted (0 ∷ 1 ∷ 2 ∷ [])) (3 ∷ 3 ∷ 3 ∷ []) ∷
+    at 4 (step 0 1 ∷ step 1 0 ∷ step 1 2 ∷ Close 0 ∷ Close 1 ∷ []) (Terminal 2) (accepted (0 ∷ 1 ∷ 2 ∷ [])) (3 ∷ 3 ∷ 3 ∷ []) ∷
     -- 8. T 0, C 0: news 0 live at T, none at C.
     at 4 [] (Terminal 0) (accepted (0 ∷ [])) (3 ∷ 0 ∷ 0 ∷ []) ∷
     at 4 (Terminal 0 ∷ []) (Close 0) (accepted []) (3 ∷ 0 ∷ 0 ∷ []) ∷
     -- 9. C 1, E 0 1: 0 open. Then C 0: 0 dead.
-    at 4 (Close 1 ∷ []) (Step 0 1) (accepted []) (1 ∷ 4 ∷ 0 ∷ []) ∷
-    at 4 (Close 1 ∷ Step 0 1 ∷ []) (Close 0) (accepted (0 ∷ [])) (4 ∷ 4 ∷ 0 ∷ []) ∷
+    at 4 (Close 1 ∷ []) (step 0 1) (accepted []) (1 ∷ 4 ∷ 0 ∷ []) ∷
+    at 4 (Close 1 ∷ step 0 1 ∷ []) (Close 0) (accepted (0 ∷ [])) (4 ∷ 4 ∷ 0 ∷ []) ∷
     -- 10. C 0, E 0 5: refused 5, not 6.
-    at 4 (Close 0 ∷ []) (Step 0 5) (refused 5) (4 ∷ 0 ∷ 0 ∷ []) ∷
+    at 4 (Close 0 ∷ []) (step 0 5) (refused 5) (4 ∷ 0 ∷ 0 ∷ []) ∷
     -- 11. Limit 1: E 0 1, then E 0 1 again: refused 9. T 0 after it is accepted.
-    at 1 (Step 0 1 ∷ []) (Step 0 1) (refused 9) (1 ∷ 1 ∷ 0 ∷ []) ∷
-    at 1 (Step 0 1 ∷ Step 0 1 ∷ []) (Terminal 0) (accepted (0 ∷ [])) (3 ∷ 1 ∷ 0 ∷ []) ∷
+    at 1 (step 0 1 ∷ []) (step 0 1) (refused 9) (1 ∷ 1 ∷ 0 ∷ []) ∷
+    at 1 (step 0 1 ∷ step 0 1 ∷ []) (Terminal 0) (accepted (0 ∷ [])) (3 ∷ 1 ∷ 0 ∷ []) ∷
     -- 12. T 0, E 0 1, E 1 2, C 1, C 2, and the same without E 0 1: last news is 1 and 2, dead, in both.
-    at 4 (Terminal 0 ∷ Step 0 1 ∷ Step 1 2 ∷ Close 1 ∷ []) (Close 2) (accepted (1 ∷ 2 ∷ [])) (3 ∷ 4 ∷ 4 ∷ []) ∷
-    at 4 (Terminal 0 ∷ Step 1 2 ∷ Close 1 ∷ []) (Close 2) (accepted (1 ∷ 2 ∷ [])) (3 ∷ 4 ∷ 4 ∷ []) ∷ []
+    at 4 (Terminal 0 ∷ step 0 1 ∷ step 1 2 ∷ Close 1 ∷ []) (Close 2) (accepted (1 ∷ 2 ∷ [])) (3 ∷ 4 ∷ 4 ∷ []) ∷
+    at 4 (Terminal 0 ∷ step 1 2 ∷ Close 1 ∷ []) (Close 2) (accepted (1 ∷ 2 ∷ [])) (3 ∷ 4 ∷ 4 ∷ []) ∷ []

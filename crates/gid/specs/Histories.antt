@@ -3,9 +3,10 @@
 use mathlib.Core.Path.{_≡_}
 use mathlib.Core.List.{List, [], _∷_, _++_, List·Memᴰ}
 use Prim.Native.Nat.{ℕ}
+use Rattle.gid.specs.declared.Edge.{Edge}
 use Rattle.gid.specs.declared.Update.{Update}
 use Rattle.gid.specs.declared.Update.the-variants.{Step, Terminal, Close}
-use Rattle.gid.specs.Updates.{source, Mentions}
+use Rattle.gid.specs.Updates.{edge, source, Mentions}
 
 -- A history is the list of its updates, the newest first: `x ∷ h` is the history h followed by the update x.
 abbrev pub History : Type 0
@@ -22,7 +23,7 @@ Has h x = List·Memᴰ x h
 
 -- The history has a step from u to v.
 abbrev pub IsStep : History → ℕ → ℕ → Type 0
-IsStep h u v = Has h (Step u v)
+IsStep h u v = Has h (Step (edge u v))
 
 abbrev pub IsTerminal : History → ℕ → Type 0
 IsTerminal h s = Has h (Terminal s)
@@ -42,3 +43,14 @@ Legal (x ∷ h) = Legal h × (IsClosed h (source x) → ⊥)
 -- g continues h: document 000's extension, of which h is a prefix.
 abbrev pub Continues : History → History → Type 0
 Continues h g = (k : History) × (g ≡ k ++ h)
+
+-- What an update adds to the step list.
+abbrev pub added : Update → List Edge
+added (Step e) = e ∷ []
+added (Terminal u) = []
+added (Close u) = []
+
+-- The step list of a history, "in order of acceptance".
+unfoldable pub listed : History → List Edge
+listed [] = []
+listed (x ∷ h) = listed h ++ added x

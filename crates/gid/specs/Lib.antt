@@ -2,6 +2,7 @@
 pub mod Updates
 pub mod Histories
 pub mod Verdicts
+pub mod Systems
 pub mod Statuses
 pub mod News
 pub mod Successors

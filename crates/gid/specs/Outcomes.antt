@@ -3,10 +3,11 @@
 use mathlib.Core.Bool.{true}
 use mathlib.Core.List.{List, [], _∷_}
 use mathlib.Core.Option.{Option, some, none}
-use Prim.Native.Nat.{ℕ, suc}
+use Prim.Native.Nat.{ℕ}
+use lib.Dec.{eqb}
+use lib.ListN.{length}
 use Rattle.gid.specs.declared.Update.{Update}
-use Rattle.gid.specs.declared.Update.the-variants.{Step, Terminal, Close}
-use Rattle.gid.specs.Histories.{History}
+use Rattle.gid.specs.Histories.{History, listed}
 use Rattle.gid.specs.Statuses.{isClosed, isDead}
 use Rattle.gid.specs.News.{news}
 use Rattle.gid.specs.Refusals.{Given, refusal}
@@ -21,15 +22,9 @@ abbrev pub byNumber : {A : Type 0} → Option ℕ → A → Outcome A
 byNumber none a = accepted a
 byNumber (some k) a = refused k
 
-abbrev pub countSteps : History → ℕ
-countSteps [] = 0
-countSteps (Step u v ∷ h) = suc (countSteps h)
-countSteps (Terminal u ∷ h) = countSteps h
-countSteps (Close u ∷ h) = countSteps h
-
 -- What the tables say after a history, with tables that are long enough.
 unfoldable pub givenAfter : ℕ → ℕ → History → Given
-givenAfter n limit h = record { n = n; limit = limit; steps = countSteps h; long = true; closed = isClosed h; dead = isDead h }
+givenAfter n limit h = record { n = n; limit = limit; steps = length (listed h); long = true; full = eqb (length (listed h)) limit; closed = isClosed h; dead = isDead h }
 
 -- The outcome of an update after a history, and the history after it.
 unfoldable pub outcome : ℕ → ℕ → History → Update → Outcome (List ℕ)

@@ -15,12 +15,13 @@ maxStates = 2048
 abbrev pub maxSteps : ℕ
 maxSteps = 8192
 
--- What a refusal turns on: the state value (n, the step limit, the number of steps), whether every table that the call is lent is long enough, and which states are marked closed and have the status dead.
+-- What a refusal turns on: the state value (n, the step limit, the number of steps), whether every table that the call is lent is long enough, whether the step list is full, and which states are marked closed and have the status dead.
 pub record Given : Type 0 where
   pub n : ℕ
   pub limit : ℕ
   pub steps : ℕ
   pub long : Bool
+  pub full : Bool
   pub closed : ℕ → Bool
   pub dead : ℕ → Bool
 
@@ -44,11 +45,11 @@ lent g =
 
 -- "Caused by the explorer that sends"
 abbrev pub sent : Given → Update → List Rule
-sent g (Step u v) =
-    record { applies = leb (g .n) u || leb (g .n) v; number = 5 } ∷
-    record { applies = g .closed u; number = 6 } ∷
-    record { applies = g .dead u; number = 8 } ∷
-    record { applies = eqb (g .steps) (g .limit); number = 9 } ∷ []
+sent g (Step e) =
+    record { applies = leb (g .n) (e .from) || leb (g .n) (e .to); number = 5 } ∷
+    record { applies = g .closed (e .from); number = 6 } ∷
+    record { applies = g .dead (e .from); number = 8 } ∷
+    record { applies = g .full; number = 9 } ∷ []
 sent g (Terminal u) =
     record { applies = leb (g .n) u; number = 5 } ∷
     record { applies = g .closed u; number = 6 } ∷

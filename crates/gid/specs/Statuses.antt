@@ -25,33 +25,33 @@ statusDead = 4
 
 unfoldable pub isNamed : History → ℕ → Bool
 isNamed [] s = false
-isNamed (Step u v ∷ h) s = eqb u s || eqb v s || isNamed h s
+isNamed (Step e ∷ h) s = eqb (e .from) s || eqb (e .to) s || isNamed h s
 isNamed (Terminal u ∷ h) s = eqb u s || isNamed h s
 isNamed (Close u ∷ h) s = eqb u s || isNamed h s
 
 unfoldable pub isTerminal : History → ℕ → Bool
 isTerminal [] s = false
-isTerminal (Step u v ∷ h) s = isTerminal h s
+isTerminal (Step e ∷ h) s = isTerminal h s
 isTerminal (Terminal u ∷ h) s = eqb u s || isTerminal h s
 isTerminal (Close u ∷ h) s = isTerminal h s
 
 unfoldable pub isClosed : History → ℕ → Bool
 isClosed [] s = false
-isClosed (Step u v ∷ h) s = isClosed h s
+isClosed (Step e ∷ h) s = isClosed h s
 isClosed (Terminal u ∷ h) s = isClosed h s
 isClosed (Close u ∷ h) s = eqb u s || isClosed h s
 
--- Whether a path leads from u to w. A path that uses the newest step a → b goes to a by older steps, and on from b by older steps.
+-- Whether a path leads from u to w. A path that uses the newest step goes to its source by older steps, and on from its target by older steps.
 unfoldable pub reaches : History → ℕ → ℕ → Bool
 reaches [] u w = eqb u w
-reaches (Step a b ∷ h) u w = reaches h u w || (reaches h u a && reaches h b w)
+reaches (Step e ∷ h) u w = reaches h u w || (reaches h u (e .from) && reaches h (e .to) w)
 reaches (Terminal a ∷ h) u w = reaches h u w
 reaches (Close a ∷ h) u w = reaches h u w
 
 -- Whether s reaches, by the steps of g, one of the states that h marks terminal.
 unfoldable pub reachesMark : History → ℕ → History → Bool
 reachesMark g s [] = false
-reachesMark g s (Step a b ∷ h) = reachesMark g s h
+reachesMark g s (Step e ∷ h) = reachesMark g s h
 reachesMark g s (Terminal v ∷ h) = reaches g s v || reachesMark g s h
 reachesMark g s (Close a ∷ h) = reachesMark g s h
 
@@ -65,7 +65,7 @@ isStuck h v = isClosed h v && not (isTerminal h v)
 -- Whether s, and each target of a step of h that s reaches by the steps of g, is closed and not terminal.
 unfoldable pub reachesStuck : History → ℕ → History → Bool
 reachesStuck g s [] = isStuck g s
-reachesStuck g s (Step a b ∷ h) = (not (reaches g s b) || isStuck g b) && reachesStuck g s h
+reachesStuck g s (Step e ∷ h) = (not (reaches g s (e .to)) || isStuck g (e .to)) && reachesStuck g s h
 reachesStuck g s (Terminal a ∷ h) = reachesStuck g s h
 reachesStuck g s (Close a ∷ h) = reachesStuck g s h
 

@@ -4,18 +4,23 @@ use mathlib.Core.Path.{_≡_}
 use mathlib.Core.Logic.{_⊎_}
 use mathlib.Core.Option.{Option, some, none}
 use Prim.Native.Nat.{ℕ}
+use Rattle.gid.specs.declared.Edge.{Edge}
 use Rattle.gid.specs.declared.Update.{Update}
 use Rattle.gid.specs.declared.Update.the-variants.{Step, Terminal, Close}
 
+-- The step from u to v.
+abbrev pub edge : ℕ → ℕ → Edge
+edge u v = record { from = u; to = v }
+
 -- "An update is sent from its first state."
 abbrev pub source : Update → ℕ
-source (Step u v) = u
+source (Step e) = e .from
 source (Terminal u) = u
 source (Close u) = u
 
 -- "A state is named when an accepted update mentions it."
 abbrev pub Mentions : Update → ℕ → Type 0
-Mentions (Step u v) s = (u ≡ s) ⊎ (v ≡ s)
+Mentions (Step e) s = (e .from ≡ s) ⊎ (e .to ≡ s)
 Mentions (Terminal u) s = u ≡ s
 Mentions (Close u) s = u ≡ s
 
@@ -26,6 +31,6 @@ pub record Values : Type 0 where
   pub to : Option ℕ
 
 abbrev pub values : Update → Values
-values (Step u v) = record { kind = 69; from = u; to = some v }
+values (Step e) = record { kind = 69; from = e .from; to = some (e .to) }
 values (Terminal u) = record { kind = 84; from = u; to = none }
 values (Close u) = record { kind = 67; from = u; to = none }

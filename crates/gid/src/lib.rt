@@ -1,9 +1,15 @@
 // The definitions of the verdict engine: what an update, a history and a verdict are. The definitions stand in specs/, the laws about them in proofs/.
 
+// The ends of a step: from one state to another, or to itself.
+pub struct Edge {
+    pub from: usize,
+    pub to: usize,
+}
+
 // What the explorer sends (document 01: an update).
 pub enum Update {
-    // `E from to`: a step from one state to another, or to itself.
-    Step { from: usize, to: usize },
+    // `E from to`: a step.
+    Step { edge: Edge },
     // `T state -`: a terminal mark, the activity is saved here.
     Terminal { state: usize },
     // `C state -`: a close, nothing more leaves here.

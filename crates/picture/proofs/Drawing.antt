@@ -47,9 +47,9 @@ line-placed a middle b ending w₁ w₂ w₃ w₄ w₅ h =
     placed-on (placed-on (placed-on (placed-on w₁ w₂ (omega arith)) w₃ (omega arith)) w₄ (omega arith)) w₅ h
 
 -- the picture of its four parts
-pub drawn : (m : ℕ) (f : ℕ → ℕ) (marked : ℕ → Bool) (from to successor : ℕ → ℕ) {at : ℕ} {d e₁ e₂ e₃ e₄ : List ℕ} {r₁ r₂ r₃ r₄ : ℕ} → WroteAt at opening d e₁ r₁ → WroteAt r₁ (statesText 2048 f marked) e₁ e₂ r₂ → WroteAt r₂ (stepsText m from to successor) e₂ e₃ r₃ → WroteAt r₃ closing e₃ e₄ r₄ → r₄ ≤ length d → WroteAt at (drawing m f marked from to successor) d e₄ r₄
+pub drawn : (n m : ℕ) (f : ℕ → ℕ) (marked : ℕ → Bool) (from to successor : ℕ → ℕ) {at : ℕ} {d e₁ e₂ e₃ e₄ : List ℕ} {r₁ r₂ r₃ r₄ : ℕ} → WroteAt at opening d e₁ r₁ → WroteAt r₁ (statesText n f marked) e₁ e₂ r₂ → WroteAt r₂ (stepsText m from to successor) e₂ e₃ r₃ → WroteAt r₃ closing e₃ e₄ r₄ → r₄ ≤ length d → WroteAt at (drawing n m f marked from to successor) d e₄ r₄
 unfolding drawing
-drawn m f marked from to successor w₁ w₂ w₃ w₄ h =
+drawn n m f marked from to successor w₁ w₂ w₃ w₄ h =
     let q₄ = w₄ .after in
     let q₃ = w₃ .after in
     placed-on (placed-on (placed-on w₁ w₂ (omega arith)) w₃ (omega arith)) w₄ h

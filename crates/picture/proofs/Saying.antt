@@ -9,16 +9,17 @@ use lib.ListN.{length, getD}
 use lib.Seq.{getD-take}
 use borrow.Author.Tests.{le-ltb}
 use Rattle.gid.specs.Refusals.{maxSteps}
-use Rattle.gid.specs.Histories.{History}
-use Rattle.gid.specs.Statuses.{isTerminal, status, statusOpen, statusUnknown}
-use Rattle.gid.specs.Successors.{noSuccessor, Chain, ends, follows, Having, SuccessorRule}
+use Rattle.gid.specs.Histories.{History, listed}
+use Rattle.gid.specs.Statuses.{isTerminal, status}
+use Rattle.gid.specs.Successors.{noSuccessor, SuccessorRule}
+use Rattle.gid.proofs.Chains.{chain-map, same-rule}
 use Rattle.tables.specs.declared.Graph.{Graph}
 use Rattle.tables.specs.Marks.{hasTerminal}
-use Rattle.tables.specs.Tables.{Tables}
-use Rattle.tables.specs.Fitting.{sources, targets}
+use Rattle.tables.specs.Tables.{Tables, Long}
+use Rattle.tables.specs.Fitting.{sources, targets, StepAt}
 use Rattle.reader.specs.Opening.{readerStates}
 use Rattle.reader.specs.Standing.{Standing}
-use Rattle.reader.specs.Reading.{recordLimit}
+use Rattle.reader.specs.Reading.{recordLimit, recordGraph}
 use Rattle.tables.proofs.Bits.{marks-bits}
 use Rattle.tables.proofs.Sizes.{long-enough}
 use Rattle.picture.specs.Picture.{statesText, stepsText, drawing, picture}
@@ -38,34 +39,16 @@ steps-same zero from to from′ to′ successor e q = refl
 steps-same (suc m) from to from′ to′ successor e q =
     rw (steps-same m from to from′ to′ successor (λ p h. e p (omega arith)) (λ p h. q p (omega arith)), e m (omega arith), q m (omega arith)) refl
 
--- a chain by entries that agree
-chain-same : {U U′ O O′ : ℕ → Type 0} {next next′ : ℕ → ℕ} → ((s : ℕ) → U s → U′ s) → ((s : ℕ) → O s → O′ s) → ((s : ℕ) → U s → next s ≡ next′ s) → {s k : ℕ} → Chain U O next s k → Chain U′ O′ next′ s k
-chain-same u o e (ends {s = s} x) = ends (o s x)
-chain-same {U′ = U′} {O′ = O′} {next′ = next′} u o e (follows {s = s} {k = k} x c) =
-    follows (u s x) (subst (λ (y : ℕ). Chain U′ O′ next′ y k) (e s x) (chain-same u o e c))
-
 -- the successor rule by entries that agree
-rule-same : (n m : ℕ) {f f′ from from′ to to′ successor successor′ : ℕ → ℕ} → ((s : ℕ) → s < n → f s ≡ f′ s) → ((p : ℕ) → p < m → from p ≡ from′ p) → ((p : ℕ) → p < m → to p ≡ to′ p) → ((s : ℕ) → s < n → successor s ≡ successor′ s) → SuccessorRule n m f from to successor → SuccessorRule n m f′ from′ to′ successor′
-rule-same n m {f} {f′} {from} {from′} {to} {to′} {successor} {successor′} e a b q r =
+entries-same : (n : ℕ) (Arc : ℕ → ℕ → ℕ → Type 0) (status successor successor′ : ℕ → ℕ) → ((s : ℕ) → s < n → successor s ≡ successor′ s) → SuccessorRule n Arc status successor → SuccessorRule n Arc status successor′
+entries-same n Arc status successor successor′ e r =
     record {
-      listed = λ s x. let l = r .listed s (back s x) in (rw (← q s (x .0)) (l .0), rw (← q s (x .0)) (sym (a (successor s) (l .0)) ∙ l .1));
-      escapes = λ s x. let z = r .escapes s (back s x) in (z .0, z .1, chain-same forth forth-open next (z .2));
-      others = λ s h z. sym (q s h) ∙ r .others s h (λ y. z (sym (e s h) ∙ y));
+      listed = λ s u. let q = r .listed s u in (q .0, subst (λ (p : ℕ). Arc s p (q .0)) (e s (u .0)) (q .1));
+      escapes = λ s u. let q = r .escapes s u in (q .0, q .1, chain-map {Next′ = λ v t. Arc v (successor′ v) t} (λ v o. o) (λ v o. o) (λ v t x a. subst (λ (p : ℕ). Arc v p t) (e v (x .0)) a) (q .2));
+      others = λ s h d. sym (e s h) ∙ r .others s h d;
     }
-  where
-    back : (s : ℕ) → Having n f′ statusUnknown s → Having n f statusUnknown s
-    back s x = (x .0, e s (x .0) ∙ x .1)
 
-    forth : (s : ℕ) → Having n f statusUnknown s → Having n f′ statusUnknown s
-    forth s x = (x .0, sym (e s (x .0)) ∙ x .1)
-
-    forth-open : (s : ℕ) → Having n f statusOpen s → Having n f′ statusOpen s
-    forth-open s x = (x .0, sym (e s (x .0)) ∙ x .1)
-
-    next : (s : ℕ) → Having n f statusUnknown s → to (successor s) ≡ to′ (successor′ s)
-    next s x = b (successor s) (r .listed s x .0) ∙ ap to′ (q s (x .0))
-
-module _ {h : History} {g : Graph} {t : Tables} (s : Standing recordLimit h g t) where
+module _ {h : History} {g : Graph} {t : Tables} (s : Standing recordGraph h g t) where
   abbrev picks : ℕ → ℕ
   picks x = getD (t .successor) x noSuccessor
 
@@ -81,22 +64,29 @@ module _ {h : History} {g : Graph} {t : Tables} (s : Standing recordLimit h g t)
   tos : (p : ℕ) → p < g .steps → getD (t .to) p 0 ≡ getD (targets h) p 0
   tos p z = sym (getD-take (g .steps) (t .to) p 0 z) ∙ ap (λ (l : List ℕ). getD l p 0) (s .fits .to)
 
+  -- the tables' steps are the history's
+  steps-listed : (a p b : ℕ) → StepAt (g .steps) (t .from) (t .to) a p b → StepAt (length (listed h)) (sources h) (targets h) a p b
+  steps-listed a p b z = (omega (arith, z .0, s .fits .steps), sym (froms p (z .0)) ∙ z .1, sym (tos p (z .0)) ∙ z .2)
+
+  -- the tables are long enough
+  roomy : Long readerStates readerStates recordLimit t
+  roomy = long-enough readerStates readerStates recordLimit t (s .long) .1
+
   -- every step is drawn
   all-drawn : drawnSteps (g .steps) (length (t .from)) (length (t .to)) ≡ g .steps
   all-drawn =
-      let l = long-enough readerStates recordLimit t (s .long) .1 in
-      rw (le-ltb maxSteps (g .steps) (omega (arith, s .room)), le-ltb (length (t .from)) (g .steps) (omega (arith, s .room, l .from)), le-ltb (length (t .to)) (g .steps) (omega (arith, s .room, l .to)))
+      rw (le-ltb maxSteps (g .steps) (omega (arith, s .room)), le-ltb (length (t .from)) (g .steps) (omega (arith, s .room, roomy .from)), le-ltb (length (t .to)) (g .steps) (omega (arith, s .room, roomy .to)))
 
   -- The picture of the tables is the picture of the history.
-  pub picture-says : Shows h (picture (drawnSteps (g .steps) (length (t .from)) (length (t .to))) (t .status) (t .marks) (t .from) (t .to) (t .successor))
+  pub picture-says : Shows readerStates h (picture readerStates (drawnSteps (g .steps) (length (t .from)) (length (t .to))) (t .status) (t .marks) (t .from) (t .to) (t .successor))
   unfolding drawing
   picture-says =
       record {
         successor = picks;
         rule =
-            subst (λ (m : ℕ). SuccessorRule readerStates m (status h) (λ p. getD (sources h) p 0) (λ p. getD (targets h) p 0) picks) (s .fits .steps)
-            (rule-same readerStates (g .steps) statuses froms tos (λ x z. read-same (t .successor) x 0 noSuccessor (omega (arith, long-enough readerStates recordLimit t (s .long) .1 .successor)))
-            (subst (λ (n : ℕ). SuccessorRule n (g .steps) (λ x. getD (t .status) x 0) (λ p. getD (t .from) p 0) (λ p. getD (t .to) p 0) (λ x. getD (t .successor) x 0)) (s .states) (s .fits .successor)));
+            entries-same readerStates (StepAt (length (listed h)) (sources h) (targets h)) (status h) (λ x. getD (t .successor) x 0) picks (λ x z. read-same (t .successor) x 0 noSuccessor (omega (arith, roomy .successor)))
+            (same-rule readerStates (StepAt (g .steps) (t .from) (t .to)) (StepAt (length (listed h)) (sources h) (targets h)) (λ x. getD (t .status) x 0) (status h) (λ x. getD (t .successor) x 0) steps-listed (λ x z. sym (statuses x z))
+            (subst (λ (n : ℕ). SuccessorRule n (StepAt (g .steps) (t .from) (t .to)) (λ x. getD (t .status) x 0) (λ x. getD (t .successor) x 0)) (s .states) (s .fits .successor)));
         bytes =
             rw (all-drawn, states-same readerStates (λ x. getD (t .status) x 0) (status h) (λ x. hasTerminal (getD (t .marks) x 0)) (isTerminal h) statuses terminals, steps-same (g .steps) (λ p. getD (t .from) p 0) (λ p. getD (t .to) p 0) (λ p. getD (sources h) p 0) (λ p. getD (targets h) p 0) picks froms tos, s .fits .steps) refl;
       }

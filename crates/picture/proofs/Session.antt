@@ -15,7 +15,7 @@ use Rattle.record.proofs.Placing.{placed-take}
 use Rattle.reader.specs.declared.task.Task.the-variants.{Read, End}
 use Rattle.reader.specs.Opening.{openRefusal}
 use Rattle.reader.specs.Replaying.{afterItems, historyOf}
-use Rattle.reader.specs.Reading.{recordLimit}
+use Rattle.reader.specs.Reading.{recordLimit, recordGraph}
 use Rattle.reader.specs.Standing.{Standing}
 use Rattle.reader.proofs.Lines.{opened-stands}
 use Rattle.reader.proofs.Parts.{underway-stands, underway-more, underway-follows, underway-last, underway-stopped}
@@ -30,9 +30,9 @@ pub progress-begun : {t t′ : Tables} {d : Drawer} {output : List ℕ} → Begi
 progress-begun {t} b e = rw (b .drawer, b .tables, e) (reads refl (record { lines = []; told = λ rest. sym (run-items rest); stands = opened-stands recordLimit t e }))
 
 -- What is drawn from tables that stand for some lines.
-shown : (d : Drawer) {t : Tables} {output output′ : List ℕ} {l : List Item} → Standing recordLimit (afterItems recordLimit [] l) (d .reader .engine .graph) t → WroteAt 0 (pictureBy (d .reader) (t .status) (t .marks) (t .from) (t .to) (t .successor)) output output′ (d .end) → (input : List ℕ) → items input ≡ l → Shows (historyOf recordLimit input) (take (d .end) output′)
+shown : (d : Drawer) {t : Tables} {output output′ : List ℕ} {l : List Item} → Standing recordGraph (afterItems recordGraph [] l) (d .reader .engine .graph) t → WroteAt 0 (pictureBy (d .reader) (t .status) (t .marks) (t .from) (t .to) (t .successor)) output output′ (d .end) → (input : List ℕ) → items input ≡ l → Shows (recordGraph .n) (historyOf recordLimit input) (take (d .end) output′)
 shown d {l = l} s w input e =
-    let z : historyOf recordLimit input ≡ afterItems recordLimit [] l = ap (afterItems recordLimit []) e in
+    let z : historyOf recordLimit input ≡ afterItems recordGraph [] l = ap (afterItems recordGraph []) e in
     rw (z, placed-take w (omega arith)) (picture-says s)
 
 -- The piece that was asked for has been read.
@@ -50,6 +50,6 @@ progress-read {got} {piece = piece} {d′ = d′} (reads q u) e room (ended n l 
     (ap (λ (x : List ℕ). items (got ++ piece ++ x)) (none n) ∙ ap (λ (x : List ℕ). items (got ++ x ++ [])) n ∙ ap items (append-nil (got ++ []) ∙ append-nil got) ∙ underway-last u refl f o l))
 
 -- The output has been written out: that was the picture.
-pub progress-ended : {got piece output : List ℕ} {d : Drawer} {t : Tables} → DrawingProgress got d piece output t → d .task ≡ End → (rest : List ℕ) → (piece ≡ [] → rest ≡ []) → Shows (historyOf recordLimit (got ++ rest)) (take (d .end) output)
+pub progress-ended : {got piece output : List ℕ} {d : Drawer} {t : Tables} → DrawingProgress got d piece output t → d .task ≡ End → (rest : List ℕ) → (piece ≡ [] → rest ≡ []) → Shows (recordGraph .n) (historyOf recordLimit (got ++ rest)) (take (d .end) output)
 progress-ended (reads q o) e = absurd (let z : _≡_ {A = ℕ} 0 1 = cc in omega arith)
 progress-ended (ends q o) e = o

@@ -10,7 +10,7 @@ use lib.Dec.{ltb}
 use lib.ListN.{length}
 use borrow.Author.Tests.{ltb-false}
 use Rattle.gid.specs.Refusals.{maxSteps}
-use Rattle.tables.specs.Tables.{Tables}
+use Rattle.tables.specs.Tables.{Tables, nodesOf}
 use Rattle.tables.specs.Keeping.{KeptTables}
 use Rattle.tables.proofs.Keeping.{tables-same}
 use Rattle.engine.specs.declared.Engine.{Engine}
@@ -74,8 +74,8 @@ draws-by d [] output q n a (stops i s c) = absurd (omega arith)
 draws-by d [] output q n a (ends e (closes z w v)) = rw z (ended refl (q ∙ n) (a .follows) (only-ended (a .stops)) refl w v)
 
 -- What a call keeps of the tables and the output.
-pub draws-kept : {d : Drawer} {piece output : List ℕ} {t : Tables} {d′ : Drawer} {output′ : List ℕ} {t′ : Tables} → Draws d piece output t d′ output′ t′ → KeptTables (d .reader .engine .graph .n) (d .reader .engine .graph .limit) t t′
-draws-kept {d} {t = t} (short h q z w) = rw w (tables-same (d .reader .engine .graph .n) (d .reader .engine .graph .limit) t)
+pub draws-kept : {d : Drawer} {piece output : List ℕ} {t : Tables} {d′ : Drawer} {output′ : List ℕ} {t′ : Tables} → Draws d piece output t d′ output′ t′ → KeptTables (d .reader .engine .graph .n) (nodesOf (d .reader .engine .graph)) (d .reader .engine .graph .limit) t t′
+draws-kept {d} {t = t} (short h q z w) = rw w (tables-same (d .reader .engine .graph .n) (nodesOf (d .reader .engine .graph)) (d .reader .engine .graph .limit) t)
 draws-kept (goes-on f l i s k e z) = f .kept
 draws-kept (stopped f s k w h) = f .kept
 draws-kept (ended e n f o k w h) = f .kept

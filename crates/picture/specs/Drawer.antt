@@ -13,15 +13,15 @@ use Rattle.record.specs.Text.{WroteAt}
 use Rattle.record.specs.Splitting.{started, lastNewline}
 use Rattle.reader.specs.declared.Reader.{Reader}
 use Rattle.reader.specs.declared.task.Task.the-variants.{Read, End}
-use Rattle.reader.specs.Opening.{readerGraph, openRefusal, openedTables}
-use Rattle.reader.specs.Reading.{recordLimit}
+use Rattle.reader.specs.Opening.{readerStates, openRefusal, openedTables}
+use Rattle.reader.specs.Reading.{recordLimit, recordGraph}
 use Rattle.reader.specs.Advancing.{Follows}
 use Rattle.picture.specs.declared.drawer.Drawer.{Drawer}
 use Rattle.picture.specs.Picture.{picture, pictureRoom}
 
 -- The drawer at the start of a record: a piece is to be read. Where the tables are too short there is nothing to be done.
 abbrev pub drawerBy : Option ℕ → Drawer
-drawerBy none = record { reader = record { splitter = started; engine = record { graph = readerGraph recordLimit } }; end = 0; task = Read }
+drawerBy none = record { reader = record { splitter = started; engine = record { graph = recordGraph } }; end = 0; task = Read }
 drawerBy (some k) = record { reader = record { splitter = started; engine = record { graph = record { n = 0; limit = 0; steps = 0 } } }; end = 0; task = End }
 
 pub record BeginsDrawing (t : Tables) (r : Drawer) (t′ : Tables) : Type 0 where
@@ -32,9 +32,9 @@ pub record BeginsDrawing (t : Tables) (r : Drawer) (t′ : Tables) : Type 0 wher
 abbrev pub drawnSteps : ℕ → ℕ → ℕ → ℕ
 drawnSteps steps from to = cond (ltb maxSteps steps) 0 (cond (ltb from steps) 0 (cond (ltb to steps) 0 steps))
 
--- The picture of a reader's tables.
+-- The picture of a reader's tables, over the states that a reader makes them fresh for.
 abbrev pub pictureBy : Reader → (status marks from to successor : List ℕ) → List ℕ
-pictureBy r status marks from to successor = picture (drawnSteps (r .engine .graph .steps) (length from) (length to)) status marks from to successor
+pictureBy r status marks from to successor = picture readerStates (drawnSteps (r .engine .graph .steps) (length from) (length to)) status marks from to successor
 
 -- The picture has been written: that is all.
 pub data PutsPicture (r : Reader) (status marks from to successor output : List ℕ) (d : Drawer) (output′ : List ℕ) : Type 0 where

@@ -5,7 +5,6 @@ use mathlib.Core.List.{List, [], _∷_, _++_}
 use Prim.Native.Nat.{ℕ, zero, suc}
 use lib.Dec.{eqb}
 use lib.ListN.{getD}
-use Rattle.gid.specs.Refusals.{maxStates}
 use Rattle.gid.specs.Statuses.{statusOpen, statusUnknown, statusLive, statusDead}
 use Rattle.gid.specs.Successors.{noSuccessor}
 use Rattle.tables.specs.Marks.{hasTerminal}
@@ -89,14 +88,14 @@ unfoldable pub stepsText : ℕ → (from to successor : ℕ → ℕ) → List �
 stepsText zero from to successor = []
 stepsText (suc p) from to successor = stepsText p from to successor ++ stepText (from p) (to p) (eqb (successor (from p)) p)
 
--- The picture of 2,048 states and m steps.
-unfoldable pub drawing : ℕ → (status : ℕ → ℕ) → (terminal : ℕ → Bool) → (from to successor : ℕ → ℕ) → List ℕ
-drawing m status terminal from to successor = opening ++ statesText maxStates status terminal ++ stepsText m from to successor ++ closing
+-- The picture of the first n states and the first m steps.
+unfoldable pub drawing : ℕ → ℕ → (status : ℕ → ℕ) → (terminal : ℕ → Bool) → (from to successor : ℕ → ℕ) → List ℕ
+drawing n m status terminal from to successor = opening ++ statesText n status terminal ++ stepsText m from to successor ++ closing
 
 -- Read from tables, with any contents. A state past the end of its table is unseen, is not terminal and has no successor.
-abbrev pub picture : ℕ → (status marks from to successor : List ℕ) → List ℕ
-picture m status marks from to successor =
-    drawing m (λ s. getD status s 0) (λ s. hasTerminal (getD marks s 0)) (λ p. getD from p 0) (λ p. getD to p 0) (λ s. getD successor s noSuccessor)
+abbrev pub picture : ℕ → ℕ → (status marks from to successor : List ℕ) → List ℕ
+picture n m status marks from to successor =
+    drawing n m (λ s. getD status s 0) (λ s. hasTerminal (getD marks s 0)) (λ p. getD from p 0) (λ p. getD to p 0) (λ s. getD successor s noSuccessor)
 
 -- The room that a picture may take: 80 bytes for each of 2,048 states and 32 for each of 8,192 steps.
 abbrev pub pictureRoom : ℕ

@@ -2,7 +2,9 @@
 ghost use mathlib.Core.Path.{_≡_};
 ghost use Prim.Native.Nat.{_≤_};
 ghost use lib.ListN.{length};
-ghost use Rattle.tables.specs.Tables.{tablesOf};
+ghost use Rattle.tables.specs.Tables.{Tables, tablesOf};
+ghost use Rattle.reader.specs.Opening.{Opens};
+ghost use Rattle.reader.specs.Reading.{recordLimit};
 ghost use Rattle.picture.specs.Picture.{pictureRoom};
 ghost use Rattle.picture.specs.Drawer.{drawnSteps, BeginsDrawing, Draws, AfterPiece, PutsPicture};
 use crate::text::PICTURE_ROOM;
@@ -56,6 +58,13 @@ pub fn begin(
         in_next,
         out_next,
     );
+    begun(opened)
+}
+
+// The drawer of tables that were opened, or were too short.
+fn begun(opened: Opened) -> Drawer
+    ensures { λ r. ⌜ ((t t′ : Tables) → Opens recordLimit t t′ opened → BeginsDrawing t r t′) ⌝ }
+{
     match opened {
         Opened::Refused(_) => Drawer {
             reader: Reader::start(Engine {

@@ -2,10 +2,11 @@
 ghost use mathlib.Core.Path.{_≡_};
 ghost use Prim.Native.Nat.{ℕ, _≤_, _<_, _+_, _*_};
 ghost use lib.ListN.{length, getD};
-ghost use Rattle.gid.specs.Refusals.{maxStates, maxSteps};
+ghost use Rattle.gid.specs.Refusals.{maxSteps};
 ghost use Rattle.gid.specs.Successors.{noSuccessor};
 ghost use Rattle.tables.specs.Marks.{hasTerminal};
 ghost use Rattle.record.specs.Text.{WroteAt};
+ghost use Rattle.reader.specs.Opening.{readerStates};
 ghost use Rattle.picture.specs.Picture.{line, node, stateText, statesText, stepText, stepsText, picture, pictureRoom};
 use record::put_bytes_at;
 use record::put_number_at;
@@ -33,7 +34,7 @@ pub fn put_picture(
     successor: &[u16],
 ) -> usize
     requires { ⌜ (m ≤ maxSteps) × (m ≤ length (now from)) × (m ≤ length (now to)) × (at + pictureRoom ≤ length (now buf)) ⌝ }
-    ensures { λ r. ⌜ WroteAt at (picture m (now (status .entry)) (now (marks .entry)) (now (from .entry)) (now (to .entry)) (now (successor .entry))) (now (buf .entry)) (now (buf .exit)) r × (r ≤ at + pictureRoom) ⌝ }
+    ensures { λ r. ⌜ WroteAt at (picture readerStates m (now (status .entry)) (now (marks .entry)) (now (from .entry)) (now (to .entry)) (now (successor .entry))) (now (buf .entry)) (now (buf .exit)) r × (r ≤ at + pictureRoom) ⌝ }
 {
     let states = put_bytes_at(
         buf,
@@ -47,8 +48,8 @@ pub fn put_picture(
 
 // The lines of the states, by rising state.
 fn put_states(buf: &mut [u8], at: usize, status: &[u8], marks: &[u8]) -> usize
-    requires { ⌜ at + 69 * maxStates ≤ length (now buf) ⌝ }
-    ensures { λ r. ⌜ WroteAt at (statesText maxStates (λ s. getD (now (status .entry)) s 0) (λ s. hasTerminal (getD (now (marks .entry)) s 0))) (now (buf .entry)) (now (buf .exit)) r × (r ≤ at + 69 * maxStates) ⌝ }
+    requires { ⌜ at + 69 * readerStates ≤ length (now buf) ⌝ }
+    ensures { λ r. ⌜ WroteAt at (statesText readerStates (λ s. getD (now (status .entry)) s 0) (λ s. hasTerminal (getD (now (marks .entry)) s 0))) (now (buf .entry)) (now (buf .exit)) r × (r ≤ at + 69 * readerStates) ⌝ }
 {
     let mut end = at;
     let mut s = 0;

@@ -9,7 +9,6 @@ use native.Mathlib.Omega.{arith}
 use lib.ListN.{length, getD}
 use borrow.Author.Tests.{le-leb, lt-leb}
 use Rattle.gid.specs.Statuses.{status}
-use Rattle.gid.specs.Refusals.{maxStates}
 use Rattle.tables.specs.declared.Graph.{Graph}
 use Rattle.tables.specs.Tables.{Tables}
 use Rattle.tables.proofs.Keeping.{tables-same, tables-then}
@@ -27,7 +26,7 @@ use Rattle.reader.specs.declared.start.Opened.{Opened}
 use Rattle.reader.specs.declared.start.Opened.the-variants.{Ready, Refused as NotOpened}
 use Rattle.reader.specs.Opening.{readerStates, openRefusal, Opens}
 use Rattle.reader.specs.Replaying.{historyOf, afterItems, Refusal}
-use Rattle.reader.specs.Reading.{recordLimit}
+use Rattle.reader.specs.Reading.{recordLimit, recordGraph}
 use Rattle.reader.specs.Standing.{Standing}
 use Rattle.reader.specs.Advancing.{Passed, itemsOf, Applies, waited, Stops, found, ended, Advances}
 use Rattle.reader.proofs.Opening.{opened-kept}
@@ -58,18 +57,18 @@ all-read (found before p e q w z) n = absurd (false≢true (sym n ∙ w))
 all-read (ended q e z) n = e
 
 -- A state of 2,048 or more.
-pub asks-range : (bytes : List ℕ) (s : ℕ) (t : Tables) → maxStates ≤ s → StatusAfter bytes s t t 21
+pub asks-range : (bytes : List ℕ) (s : ℕ) (t : Tables) → readerStates ≤ s → StatusAfter bytes s t t 21
 unfolding answerOn
 asks-range bytes s t h =
     record {
-      answer = rw (le-leb maxStates s h);
+      answer = rw (le-leb readerStates s h);
       outOfRange = λ z. refl;
       tooShort = λ k e. refl;
       stands = λ z e. absurd (omega arith);
-      kept = tables-same readerStates recordLimit t;
+      kept = tables-same readerStates readerStates recordLimit t;
     }
 
-module _ (bytes : List ℕ) {s : ℕ} (below : s < maxStates) {t t₁ : Tables} {opened : Opened} (opens : Opens recordLimit t t₁ opened) where
+module _ (bytes : List ℕ) {s : ℕ} (below : s < readerStates) {t t₁ : Tables} {opened : Opened} (opens : Opens recordLimit t t₁ opened) where
   -- Tables that are too short.
   pub asks-short : {k : ℕ} → opened ≡ NotOpened k → (k ≤ 12) × StatusAfter bytes s t t₁ (16 + k)
   unfolding answerOn
@@ -82,18 +81,18 @@ module _ (bytes : List ℕ) {s : ℕ} (below : s < maxStates) {t t₁ : Tables} 
           let same : t₁ ≡ t = opens .tables ∙ rw e in (
             rw z (open-few recordLimit t j e),
             record {
-              answer = rw (lt-leb maxStates s below, e, z);
+              answer = rw (lt-leb readerStates s below, e, z);
               outOfRange = λ z. absurd (omega arith);
               tooShort = λ i w. same;
               stands = λ i w. absurd (let y : _≡_ {A = ℕ} 0 1 = cc in omega arith);
-              kept = rw same (tables-same readerStates recordLimit t);
+              kept = rw same (tables-same readerStates readerStates recordLimit t);
             },
           )
 
   module _ {engine : Engine} (ready : opened ≡ Ready engine) where
     -- Lines that end with an answer, and what is known of them.
-    module _ {g : Graph} {t′ : Tables} {l : List Passed} {o : LineAnswer} (applied : Applies (engine .graph) t₁ l g t′) (d : Decided recordLimit [] (items bytes) o (itemsOf l)) where
-      stood : Standing recordLimit (historyUpTo bytes) g t′
+    module _ {g : Graph} {t′ : Tables} {l : List Passed} {o : LineAnswer} (applied : Applies (engine .graph) t₁ l g t′) (d : Decided recordGraph [] (items bytes) o (itemsOf l)) where
+      stood : Standing recordGraph (historyUpTo bytes) g t′
       stood = rw (d .upTo) (applies-stands (ready-stands opens ready) applied)
 
       asks-lines : {r : ℕ} → r ≡ answerAfter bytes s → StatusAfter bytes s t t′ r
@@ -101,10 +100,10 @@ module _ (bytes : List ℕ) {s : ℕ} (below : s < maxStates) {t t₁ : Tables} 
       asks-lines e =
           let w = ready-opened opens ready in
           record {
-            answer = rw (lt-leb maxStates s below, w .0) e;
+            answer = rw (lt-leb readerStates s below, w .0) e;
             outOfRange = λ z. absurd (omega arith);
             tooShort = λ k z. absurd (let p = w .0 in let y : _≡_ {A = ℕ} 0 1 = cc in omega arith);
-            stands = λ z p. subst (λ (x : Graph). Standing recordLimit (historyUpTo bytes) x t′) (standing-graph stood) stood;
+            stands = λ z p. subst (λ (x : Graph). Standing recordGraph (historyUpTo bytes) x t′) (standing-graph stood) stood;
             kept = tables-then (opened-kept recordLimit t (w .0)) (rw (w .1, w .2) at (applies-same applied .kept));
           }
 
@@ -117,7 +116,7 @@ module _ (bytes : List ℕ) {s : ℕ} (below : s < maxStates) {t t₁ : Tables} 
       asks-refused e =
           let applied = rw graphs at (first .follows .applied) in
           let told : items bytes ≡ itemsOf (first .follows .passed) ++ run s₁ (left ++ []) = sym (run-items bytes) ∙ ap (run started) (sym (append-nil bytes)) ∙ ap (λ (x : Splitter). run x (bytes ++ [])) (sym begins) ∙ first .follows .told [] in
-          let d : Decided recordLimit [] (items bytes) o (itemsOf (first .follows .passed)) = rw told (decides (ready-stands opens ready) applied (first .stops) (run s₁ (left ++ [])) (λ q. absurd (not-nothing o e q))) in
+          let d : Decided recordGraph [] (items bytes) o (itemsOf (first .follows .passed)) = rw told (decides (ready-stands opens ready) applied (first .stops) (run s₁ (left ++ [])) (λ q. absurd (not-nothing o e q))) in
           asks-lines applied d (refused-answer o 0 (status (historyOf recordLimit bytes) s) e ∙ ap (λ (x : Option Refusal). orLine x (status (historyOf recordLimit bytes) s)) (sym (d .refusal)))
 
       -- None is, up to the last.
@@ -134,16 +133,16 @@ module _ (bytes : List ℕ) {s : ℕ} (below : s < maxStates) {t t₁ : Tables} 
             let v = underway-follows u (first .follows) in
             underway-last v (all-read (first .stops) none-yet) (last .follows) over ends ∙ sym (items-then (first .follows .passed) (last .follows .passed))
 
-        decided : Decided recordLimit [] (items bytes) o₂ (itemsOf lines)
+        decided : Decided recordGraph [] (items bytes) o₂ (itemsOf lines)
         decided = rw (told ∙ sym (append-nil (itemsOf lines))) (decides (ready-stands opens ready) applied (stops-then (first .stops) none-yet (last .stops)) [] (λ q. refl))
 
         pub asks-long : s < length (t₃ .status)
-        asks-long = omega (arith, long-enough readerStates recordLimit t₃ (stood applied decided .long) .1 .status)
+        asks-long = omega (arith, long-enough readerStates readerStates recordLimit t₃ (stood applied decided .long) .1 .status)
 
         pub asks-last : StatusAfter bytes s t t₃ (refusedOr o₂ (getD (t₃ .status) s 0))
         asks-last =
             let z = applies-stands (ready-stands opens ready) applied in
-            let b : getD (t₃ .status) s 0 ≡ status (historyOf recordLimit bytes) s = z .fits .status s (omega (arith, z .states)) ∙ ap (λ (x : List Item). status (afterItems recordLimit [] x) s) (sym told) in
+            let b : getD (t₃ .status) s 0 ≡ status (historyOf recordLimit bytes) s = z .fits .status s (omega (arith, z .states)) ∙ ap (λ (x : List Item). status (afterItems recordGraph [] x) s) (sym told) in
             asks-lines applied decided (ap (refusedOr o₂) b ∙ line-answer o₂ (status (historyOf recordLimit bytes) s) ∙ ap (λ (x : Option Refusal). orLine x (status (historyOf recordLimit bytes) s)) (sym (decided .refusal)))
 
 -- On tables that are long enough the answer is that of the record alone.

@@ -10,8 +10,8 @@ use Rattle.gid.specs.declared.Update.{Update}
 use Rattle.gid.specs.declared.Update.the-variants.{Step, Terminal, Close}
 use Rattle.gid.specs.Refusals.{Given, Rule, first, lent, sent, refusal}
 use Rattle.tables.specs.declared.Graph.{Graph}
-use Rattle.tables.specs.Tables.{Tables, enough, needs, lengths}
-use Rattle.tables.specs.Refused.{given}
+use Rattle.tables.specs.Tables.{Tables, longEnough}
+use Rattle.tables.specs.Refused.{isFull, given}
 use Rattle.engine.specs.declared.Answer.{Answer}
 use Rattle.engine.specs.declared.Answer.the-variants.{Accepted as Yes, Refused as No}
 use Rattle.engine.specs.Promise.{Promise}
@@ -19,7 +19,7 @@ use Rattle.record.specs.declared.splitter.Item.{Item}
 use Rattle.record.specs.declared.splitter.Splitter.{Splitter}
 use Rattle.reader.specs.declared.driver.LineAnswer.{LineAnswer}
 use Rattle.reader.specs.declared.driver.Until.{Until}
-use Rattle.reader.specs.Opening.{readerStates, readerGraph, openRefusal}
+use Rattle.reader.specs.Opening.{readerGraph, openRefusal}
 use Rattle.reader.specs.Turning.{lineAnswer, Came, sent as came, nothing, malformed, badNames, tooMany}
 use Rattle.reader.specs.Advancing.{Passed, Applies, next, Stops, found, ended, Advances}
 use Rattle.query.specs.Answering.{Few}
@@ -40,7 +40,7 @@ lent-few : (g : Given) (l : List Rule) → AllFew l → AllFew (lent g ++ l)
 lent-few g l a = (omega arith, (omega arith, (omega arith, (omega arith, a))))
 
 sent-few : (g : Given) (x : Update) → AllFew (sent g x)
-sent-few g (Step u v) = (omega arith, (omega arith, (omega arith, (omega arith, tt))))
+sent-few g (Step e) = (omega arith, (omega arith, (omega arith, (omega arith, tt))))
 sent-few g (Terminal u) = (omega arith, (omega arith, (omega arith, tt)))
 sent-few g (Close u) = (omega arith, (omega arith, tt))
 
@@ -49,7 +49,7 @@ answered-few : {g g′ : Graph} {x : Update} {t t′ : Tables} (line : ℕ) (a :
 unfolding refusal
 answered-few line (Yes k) p = tt
 answered-few {g} {x = x} {t = t} line (No k) p =
-    let v = given g (enough (needs (g .n) (g .limit) (lengths t))) (t .marks) (t .status) in
+    let v = given g (longEnough g t) (isFull g) (t .marks) (t .status) in
     first-few (lent v ++ sent v x) (lent-few v (sent v x) (sent-few v x)) k (sym (p .number))
 
 -- of any line,
@@ -75,5 +75,5 @@ advances-few a = stops-few (a .follows .applied) (a .stops)
 -- and of the tables.
 pub open-few : (limit : ℕ) (t : Tables) (k : ℕ) → openRefusal limit t ≡ some k → k ≤ 12
 open-few limit t k e =
-    let v = given (readerGraph limit) (enough (needs readerStates limit (lengths t))) [] [] in
+    let v = given (readerGraph limit) (longEnough (readerGraph limit) t) false [] [] in
     first-few (lent v) (lent-few v [] tt) k e

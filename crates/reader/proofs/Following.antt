@@ -21,7 +21,7 @@ use Rattle.tables.proofs.Refusing.{accepted-passes}
 use Rattle.engine.specs.declared.Answer.{Answer}
 use Rattle.engine.specs.declared.Answer.the-variants.{Accepted as Yes, Refused as No}
 use Rattle.engine.specs.Promise.{Promise}
-use Rattle.engine.proofs.Running.{was-accepted, same-states, same-limit}
+use Rattle.engine.proofs.Running.{was-accepted}
 use Rattle.engine.proofs.Promising.{room-of}
 use Rattle.record.specs.declared.splitter.Item.{Item}
 use Rattle.record.specs.declared.splitter.Numbered.{Numbered}
@@ -57,12 +57,12 @@ came-as {g = g} {t = t} {g′ = g′} {t′ = t′} {o = o} e c = subst (λ (x :
 
 -- What a call keeps: every table past its needed length, and the sizes.
 pub record SameSize (g : Graph) (t : Tables) (g′ : Graph) (t′ : Tables) : Type 0 where
-  pub kept : KeptTables (g .n) (g .limit) t t′
+  pub kept : KeptTables (g .n) (g .n) (g .limit) t t′
   pub states : g′ .n ≡ g .n
   pub limit : g′ .limit ≡ g .limit
 
 same-none : (g : Graph) (t : Tables) → SameSize g t g t
-same-none g t = record { kept = tables-same (g .n) (g .limit) t; states = refl; limit = refl }
+same-none g t = record { kept = tables-same (g .n) (g .n) (g .limit) t; states = refl; limit = refl }
 
 same-then : {g g₁ g₂ : Graph} {t t₁ t₂ : Tables} → SameSize g t g₁ t₁ → SameSize g₁ t₁ g₂ t₂ → SameSize g t g₂ t₂
 same-then a b = record { kept = tables-then (a .kept) (rw (a .states, a .limit) at (b .kept)); states = b .states ∙ a .states; limit = b .limit ∙ a .limit }
@@ -73,7 +73,7 @@ same-promise {g} {x} {t} {g′} {a} {t′} p = by (refusalOn g t x) refl
     by : (o : Option ℕ) → refusalOn g t x ≡ o → SameSize g t g′ t′
     by none e =
         let w = p .accepts e in
-        record { kept = w .kept; states = ap (λ (h : Graph). h .n) (w .graph) ∙ same-states g x; limit = ap (λ (h : Graph). h .limit) (w .graph) ∙ same-limit g x }
+        record { kept = w .kept; states = ap (λ (h : Graph). h .n) (w .graph); limit = ap (λ (h : Graph). h .limit) (w .graph) }
     by (some k) e = let w = p .refuses k e in rw (w .1, w .2) (same-none g t)
 
 pub came-same : {a : Item} {g : Graph} {t : Tables} {g′ : Graph} {t′ : Tables} {o : LineAnswer} → Came a g t g′ t′ o → SameSize g t g′ t′
@@ -97,7 +97,7 @@ items-then [] m = refl
 items-then (p ∷ l) m = ap (λ (x : List Item). p .item ∷ x) (items-then l m)
 
 -- Where lines are applied to tables that stand, they stand for the history after them.
-pub applies-stands : {limit : ℕ} {h : History} {g g′ : Graph} {t t′ : Tables} {l : List Passed} → Standing limit h g t → Applies g t l g′ t′ → Standing limit (afterItems limit h (itemsOf l)) g′ t′
+pub applies-stands : {start : Graph} {h : History} {g g′ : Graph} {t t′ : Tables} {l : List Passed} → Standing start h g t → Applies g t l g′ t′ → Standing start (afterItems start h (itemsOf l)) g′ t′
 applies-stands s no-line = s
 applies-stands s (next c a) = applies-stands (line-right s c .1) a
 
@@ -167,7 +167,7 @@ came-bounded badNames h = omega arith
 came-bounded tooMany h = omega arith
 
 abbrev pub follows-none : (s : Splitter) (bytes : List ℕ) (g : Graph) (t : Tables) → Follows s bytes g t s bytes g t
-follows-none s bytes g t = record { passed = []; applied = no-line; told = λ rest. refl; fed = refl; kept = tables-same (g .n) (g .limit) t }
+follows-none s bytes g t = record { passed = []; applied = no-line; told = λ rest. refl; fed = refl; kept = tables-same (g .n) (g .n) (g .limit) t }
 
 module _ {s s₁ s₂ : Splitter} {bytes bytes₁ bytes₂ : List ℕ} {g g₁ g₂ : Graph} {t t₁ t₂ : Tables} where
   -- some lines, and then others

@@ -9,7 +9,7 @@ use native.Mathlib.Omega.{arith}
 use Rattle.gid.specs.declared.Update.{Update}
 use Rattle.gid.specs.Histories.{History}
 use Rattle.gid.specs.Refusals.{refusal}
-use Rattle.gid.specs.Outcomes.{Outcome, byNumber, countSteps, givenAfter, outcome, after}
+use Rattle.gid.specs.Outcomes.{Outcome, byNumber, givenAfter, outcome, after}
 use Rattle.tables.specs.declared.Graph.{Graph}
 use Rattle.tables.specs.declared.lengths.Lengths.{Lengths}
 use Rattle.tables.specs.Tables.{Tables, enough, needs}
@@ -21,19 +21,20 @@ use Rattle.engine.specs.Answers.{answerOutcome}
 use Rattle.engine.specs.Promise.{Promise}
 use Rattle.engine.specs.Runs.{Run, begun, accepted as goes-on, refused as passes}
 use Rattle.engine.proofs.Running.{Sound, sound}
-use Rattle.engine.proofs.Replay.{replay, count-sources}
+use Rattle.engine.proofs.Replay.{replay}
 use Rattle.record.specs.declared.splitter.Item.{Item}
 use Rattle.record.specs.declared.splitter.Item.the-variants.{Nothing as NoLine, Update as Sent, Malformed, BadNames, TooMany}
 use Rattle.record.specs.Items.{itemLine}
 use Rattle.reader.specs.declared.driver.LineAnswer.{LineAnswer}
-use Rattle.reader.specs.Opening.{readerStates, readerGraph, openRefusal, freshened}
+use Rattle.reader.specs.Opening.{readerGraph, openRefusal, freshened}
 use Rattle.reader.specs.Turning.{Told, lineOutcome, lineAnswer, Came, sent, nothing, malformed, badNames, tooMany}
 use Rattle.reader.specs.Replaying.{outcomeOf, afterItem, sends}
 use Rattle.reader.specs.Standing.{Standing}
+use Rattle.reader.specs.Reading.{graphOf}
 use Rattle.reader.proofs.Opening.{opened-fresh, opened-kept, opened-enough}
 
 -- Opened tables stand at the start of a record.
-pub opened-stands : (limit : ℕ) (t : Tables) → openRefusal limit t ≡ none → Standing limit [] (readerGraph limit) (freshened limit t)
+pub opened-stands : (limit : ℕ) (t : Tables) → openRefusal limit t ≡ none → Standing (readerGraph limit) [] (readerGraph limit) (freshened limit t)
 opened-stands limit t e =
     let s = sound (opened-fresh limit t e) begun in
     record {
@@ -42,31 +43,30 @@ opened-stands limit t e =
       states = refl;
       limits = refl;
       room = omega arith;
-      long = subst (λ (l : Lengths). enough (needs readerStates limit l) ≡ true) (sym (lengths-kept (opened-kept limit t e))) (opened-enough limit t e);
+      long = subst (λ (l : Lengths). enough (needs (readerGraph limit .n) (readerGraph limit .n) limit l) ≡ true) (sym (lengths-kept (opened-kept limit t e))) (opened-enough limit t e);
     }
 
 -- The state value is known by the history.
-pub standing-graph : {limit : ℕ} {h : History} {g : Graph} {t : Tables} → Standing limit h g t → g ≡ record { n = readerStates; limit = limit; steps = countSteps h }
-standing-graph {h = h} s =
-    λ i. record { n = s .states i; limit = s .limits i; steps = (s .fits .steps ∙ sym (count-sources h)) i }
+pub standing-graph : {start : Graph} {h : History} {g : Graph} {t : Tables} → Standing start h g t → g ≡ graphOf start h
+standing-graph s = λ i. record { n = s .states i; limit = s .limits i; steps = s .fits .steps i }
 
 -- What the definitions say of a line.
-abbrev pub lineTold : ℕ → History → Item → Option Told
-lineTold limit h NoLine = none
-lineTold limit h (Sent r) = some (record { line = itemLine (Sent r); outcome = outcomeOf limit h (Sent r) })
-lineTold limit h (Malformed n) = some (record { line = itemLine (Malformed n); outcome = outcomeOf limit h (Malformed n) })
-lineTold limit h BadNames = some (record { line = itemLine BadNames; outcome = outcomeOf limit h BadNames })
-lineTold limit h TooMany = some (record { line = itemLine TooMany; outcome = outcomeOf limit h TooMany })
+abbrev pub lineTold : Graph → History → Item → Option Told
+lineTold start h NoLine = none
+lineTold start h (Sent r) = some (record { line = itemLine (Sent r); outcome = outcomeOf start h (Sent r) })
+lineTold start h (Malformed n) = some (record { line = itemLine (Malformed n); outcome = outcomeOf start h (Malformed n) })
+lineTold start h BadNames = some (record { line = itemLine BadNames; outcome = outcomeOf start h BadNames })
+lineTold start h TooMany = some (record { line = itemLine TooMany; outcome = outcomeOf start h TooMany })
 
 pub answer-told : (line : ℕ) (a : Answer) (news : List ℕ) → lineOutcome (lineAnswer line a) news ≡ some (record { line = line; outcome = answerOutcome a news })
 answer-told line (Yes k) news = refl
 answer-told line (No k) news = refl
 
-module _ {limit : ℕ} {h : History} {g : Graph} {t : Tables} (s : Standing limit h g t) where
+module _ {start : Graph} {h : History} {g : Graph} {t : Tables} (s : Standing start h g t) where
   soundly : Sound g t h g t
   soundly = record { legal = s .legal; fits = s .fits; states = refl; limit = refl; sizes = refl; room = rw (s .limits) (s .room) }
 
-  stands : {h′ : History} {g′ : Graph} {t′ : Tables} → Sound g t h′ g′ t′ → Standing limit h′ g′ t′
+  stands : {h′ : History} {g′ : Graph} {t′ : Tables} → Sound g t h′ g′ t′ → Standing start h′ g′ t′
   stands w =
       record {
         legal = w .legal;
@@ -74,18 +74,18 @@ module _ {limit : ℕ} {h : History} {g : Graph} {t : Tables} (s : Standing limi
         states = w .states ∙ s .states;
         limits = w .limit ∙ s .limits;
         room = omega (arith, w .room, w .limit, s .limits);
-        long = subst (λ (l : Lengths). enough (needs readerStates limit l) ≡ true) (sym (w .sizes)) (s .long);
+        long = subst (λ (l : Lengths). enough (needs (start .n) (start .n) (start .limit) l) ≡ true) (sym (w .sizes)) (s .long);
       }
 
-  updated : {g′ : Graph} {t′ : Tables} (x : Update) {a : Answer} → Promise g x t g′ a t′ → (answerOutcome a (t′ .news) ≡ outcome readerStates limit h x) × Standing limit (after readerStates limit h x) g′ t′
+  updated : {g′ : Graph} {t′ : Tables} (x : Update) {a : Answer} → Promise g x t g′ a t′ → (answerOutcome a (t′ .news) ≡ outcome (start .n) (start .limit) h x) × Standing start (after (start .n) (start .limit) h x) g′ t′
   updated {g′} {t′} x {a} p =
       let r =
-      subst (λ (m : ℕ). (answerOutcome a (t′ .news) ≡ outcome readerStates m h x) × Sound g t (after readerStates m h x) g′ t′) (s .limits)
+      subst (λ (m : ℕ). (answerOutcome a (t′ .news) ≡ outcome (start .n) m h x) × Sound g t (after (start .n) m h x) g′ t′) (s .limits)
       (subst (λ (n : ℕ). (answerOutcome a (t′ .news) ≡ outcome n (g .limit) h x) × Sound g t (after n (g .limit) h x) g′ t′) (s .states) (replay soundly (rw (s .states, s .limits) (s .long)) x p)) in
       (r .0, stands (r .1))
 
   -- One line: what comes of it is what the definitions say, and so are the tables after it.
-  pub line-right : {a : Item} {g′ : Graph} {t′ : Tables} {o : LineAnswer} → Came a g t g′ t′ o → (lineOutcome o (t′ .news) ≡ lineTold limit h a) × Standing limit (afterItem limit h a) g′ t′
+  pub line-right : {a : Item} {g′ : Graph} {t′ : Tables} {o : LineAnswer} → Came a g t g′ t′ o → (lineOutcome o (t′ .news) ≡ lineTold start h a) × Standing start (afterItem start h a) g′ t′
   line-right nothing = (refl, s)
   line-right (sent {r = r} p e q) =
       let w = updated (r .update) p in
@@ -98,18 +98,18 @@ module _ {limit : ℕ} {h : History} {g : Graph} {t : Tables} (s : Standing limi
   unchecked : Checked g t t
   unchecked = record { status = refl; marks = refl; from = refl; to = refl; successor = refl; news = refl; sizes = refl; fits = λ k l c. c }
 
-  runs : {g₀ : Graph} {t₀ : Tables} {xs : List Update} {g′ : Graph} {t′ : Tables} (x : Update) (a : Answer) → Run g₀ t₀ xs h g t → Promise g x t g′ a t′ → Run g₀ t₀ (x ∷ xs) (after readerStates limit h x) g′ t′
+  runs : {g₀ : Graph} {t₀ : Tables} {xs : List Update} {g′ : Graph} {t′ : Tables} (x : Update) (a : Answer) → Run g₀ t₀ xs h g t → Promise g x t g′ a t′ → Run g₀ t₀ (x ∷ xs) (after (start .n) (start .limit) h x) g′ t′
   unfolding outcome after
-  runs {g₀} {t₀} {xs} {g′} {t′} x a r p = by (refusal (givenAfter readerStates limit h) x) a p (updated x p .0)
+  runs {g₀} {t₀} {xs} {g′} {t′} x a r p = by (refusal (givenAfter (start .n) (start .limit) h) x) a p (updated x p .0)
     where
-      by : (o : Option ℕ) (b : Answer) → Promise g x t g′ b t′ → answerOutcome b (t′ .news) ≡ byNumber o (Rattle.gid.specs.News.news readerStates h x) → Run g₀ t₀ (x ∷ xs) (elim o as (λ z. History) [ none ↦ x ∷ h | some j ↦ h ]) g′ t′
+      by : (o : Option ℕ) (b : Answer) → Promise g x t g′ b t′ → answerOutcome b (t′ .news) ≡ byNumber o (Rattle.gid.specs.News.news (start .n) h x) → Run g₀ t₀ (x ∷ xs) (elim o as (λ z. History) [ none ↦ x ∷ h | some j ↦ h ]) g′ t′
       by none (Yes k) q e = goes-on r unchecked x k q
       by none (No k) q e = absurd (let z : _≡_ {A = ℕ} 0 1 = cc in omega arith)
       by (some j) (Yes k) q e = absurd (let z : _≡_ {A = ℕ} 0 1 = cc in omega arith)
       by (some j) (No k) q e = passes r unchecked x k q
 
   -- A line goes on with a run by its update, accepted or refused, where it has one: the tables are those of a run over the lines' updates.
-  pub line-runs : {g₀ : Graph} {t₀ : Tables} {xs : List Update} {a : Item} {g′ : Graph} {t′ : Tables} {o : LineAnswer} → Run g₀ t₀ xs h g t → Came a g t g′ t′ o → Run g₀ t₀ (sends a ++ xs) (afterItem limit h a) g′ t′
+  pub line-runs : {g₀ : Graph} {t₀ : Tables} {xs : List Update} {a : Item} {g′ : Graph} {t′ : Tables} {o : LineAnswer} → Run g₀ t₀ xs h g t → Came a g t g′ t′ o → Run g₀ t₀ (sends a ++ xs) (afterItem start h a) g′ t′
   line-runs r nothing = r
   line-runs r (sent {r = l} {a = a} p e q) = runs (l .update) a r p
   line-runs r malformed = r

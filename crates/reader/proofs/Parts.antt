@@ -33,27 +33,27 @@ ready-opened {limit} {t} {t′} {r} {e} o q = at (openRefusal limit t) refl
     at none z = (z, (let y = o .answer in cc), o .tables ∙ rw z)
     at (some k) z = absurd (let y = o .answer in let w : _≡_ {A = ℕ} 0 1 = cc in omega arith)
 
-pub ready-stands : {limit : ℕ} {t t′ : Tables} {r : Opened} {e : Engine} → Opens limit t t′ r → r ≡ Ready e → Standing limit [] (e .graph) t′
+pub ready-stands : {limit : ℕ} {t t′ : Tables} {r : Opened} {e : Engine} → Opens limit t t′ r → r ≡ Ready e → Standing (readerGraph limit) [] (e .graph) t′
 ready-stands {limit} {t} o q = let w = ready-opened o q in rw (w .1, w .2) (opened-stands limit t (w .0))
 
-abbrev pub underway-opened : {limit : ℕ} {t t′ : Tables} {r : Opened} {e : Engine} {s : Splitter} {g : Graph} → Opens limit t t′ r → r ≡ Ready e → s ≡ started → g ≡ e .graph → Underway limit [] s [] g t′
+abbrev pub underway-opened : {limit : ℕ} {t t′ : Tables} {r : Opened} {e : Engine} {s : Splitter} {g : Graph} → Opens limit t t′ r → r ≡ Ready e → s ≡ started → g ≡ e .graph → Underway (readerGraph limit) [] s [] g t′
 underway-opened o q z i = record { lines = []; told = λ rest. rw z (sym (run-items rest)); stands = rw i (ready-stands o q) }
 
-after-then : (limit : ℕ) (h : History) (l m : List Item) → afterItems limit h (l ++ m) ≡ afterItems limit (afterItems limit h l) m
-after-then limit h [] m = refl
-after-then limit h (a ∷ l) m = after-then limit (afterItem limit h a) l m
+after-then : (start : Graph) (h : History) (l m : List Item) → afterItems start h (l ++ m) ≡ afterItems start (afterItems start h l) m
+after-then start h [] m = refl
+after-then start h (a ∷ l) m = after-then start (afterItem start h a) l m
 
 -- another part comes
-abbrev pub underway-more : {limit : ℕ} {got : List ℕ} {s : Splitter} {g : Graph} {t : Tables} → Underway limit got s [] g t → (part : List ℕ) → Underway limit (got ++ part) s part g t
+abbrev pub underway-more : {start : Graph} {got : List ℕ} {s : Splitter} {g : Graph} {t : Tables} → Underway start got s [] g t → (part : List ℕ) → Underway start (got ++ part) s part g t
 underway-more {got = got} u part =
     record { lines = u .lines; told = λ rest. ap items (append-assoc got part rest) ∙ u .told (part ++ rest); stands = u .stands }
 
 -- what the tables stand for after more lines
-pub underway-stands : {limit : ℕ} {got left : List ℕ} {s : Splitter} {g g′ : Graph} {t t′ : Tables} {l : List Passed} (u : Underway limit got s left g t) → Applies g t l g′ t′ → Standing limit (afterItems limit [] (u .lines ++ itemsOf l)) g′ t′
-underway-stands {limit} {g′ = g′} {t′ = t′} {l = l} u a = subst (λ (h : History). Standing limit h g′ t′) (sym (after-then limit [] (u .lines) (itemsOf l))) (applies-stands (u .stands) a)
+pub underway-stands : {start : Graph} {got left : List ℕ} {s : Splitter} {g g′ : Graph} {t t′ : Tables} {l : List Passed} (u : Underway start got s left g t) → Applies g t l g′ t′ → Standing start (afterItems start [] (u .lines ++ itemsOf l)) g′ t′
+underway-stands {start} {g′ = g′} {t′ = t′} {l = l} u a = subst (λ (h : History). Standing start h g′ t′) (sym (after-then start [] (u .lines) (itemsOf l))) (applies-stands (u .stands) a)
 
 -- lines of it are read
-abbrev pub underway-follows : {limit : ℕ} {got : List ℕ} {s s′ : Splitter} {left left′ : List ℕ} {g g′ : Graph} {t t′ : Tables} → Underway limit got s left g t → Follows s left g t s′ left′ g′ t′ → Underway limit got s′ left′ g′ t′
+abbrev pub underway-follows : {start : Graph} {got : List ℕ} {s s′ : Splitter} {left left′ : List ℕ} {g g′ : Graph} {t t′ : Tables} → Underway start got s left g t → Follows s left g t s′ left′ g′ t′ → Underway start got s′ left′ g′ t′
 underway-follows {s′ = s′} {left′ = left′} u f =
     record {
       lines = u .lines ++ itemsOf (f .passed);
@@ -62,7 +62,7 @@ underway-follows {s′ = s′} {left′ = left′} u f =
     }
 
 -- no part comes any more: the last line lacks its newline, or there is none
-pub underway-last : {limit : ℕ} {got left newline left′ : List ℕ} {s s′ : Splitter} {g g′ : Graph} {t t′ : Tables} (u : Underway limit got s left g t) → left ≡ [] → (f : Follows s newline g t s′ left′ g′ t′) → left′ ≡ [] → newline ≡ lastNewline s → items got ≡ u .lines ++ itemsOf (f .passed)
+pub underway-last : {start : Graph} {got left newline left′ : List ℕ} {s s′ : Splitter} {g g′ : Graph} {t t′ : Tables} (u : Underway start got s left g t) → left ≡ [] → (f : Follows s newline g t s′ left′ g′ t′) → left′ ≡ [] → newline ≡ lastNewline s → items got ≡ u .lines ++ itemsOf (f .passed)
 unfolding afterBytes
 underway-last {got = got} {newline = newline} {s = s} {s′ = s′} u d f d′ e =
     ap items (sym (append-nil got)) ∙ u .told [] ∙
@@ -77,5 +77,5 @@ underway-last {got = got} {newline = newline} {s = s} {s′ = s′} u d f d′ e
         ap (λ (x : Splitter). run x []) z ∙ last-over s
 
 -- reading has stopped: whatever follows tells nothing more
-pub underway-stopped : {limit : ℕ} {got : List ℕ} {s : Splitter} {left : List ℕ} {g : Graph} {t : Tables} (u : Underway limit got s left g t) → s .stopped ≡ true → (rest : List ℕ) → items (got ++ rest) ≡ u .lines
+pub underway-stopped : {start : Graph} {got : List ℕ} {s : Splitter} {left : List ℕ} {g : Graph} {t : Tables} (u : Underway start got s left g t) → s .stopped ≡ true → (rest : List ℕ) → items (got ++ rest) ≡ u .lines
 underway-stopped {s = s} {left = left} u e rest = u .told rest ∙ ap (λ (x : List Item). u .lines ++ x) (stopped-told s e (left ++ rest)) ∙ append-nil (u .lines)

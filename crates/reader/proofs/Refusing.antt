@@ -32,8 +32,8 @@ by-outcome (accepted l) line Nothing e later = (λ w. absurd (false≢true w), �
 by-outcome (accepted l) line (Accepted m j) e later = (λ w. absurd (false≢true w), λ w. refl)
 by-outcome (accepted l) line (Refused m j) e later = absurd (let z = e none in let w : _≡_ {A = ℕ} 0 1 = cc in omega arith)
 
-stop-told : (limit : ℕ) (h : History) (a : Item) (o : LineAnswer) (news : List ℕ) → lineOutcome o news ≡ lineTold limit h a → (later : List Item) → (waited UntilRefusal o ≡ true → orStop (outcomeOf limit h a) later ≡ []) × (waited UntilRefusal o ≡ false → orStop (outcomeOf limit h a) later ≡ later)
-stop-told limit h a o news e = by-outcome (outcomeOf limit h a) (itemLine a) o (told-refused limit h a o news e)
+stop-told : (start : Graph) (h : History) (a : Item) (o : LineAnswer) (news : List ℕ) → lineOutcome o news ≡ lineTold start h a → (later : List Item) → (waited UntilRefusal o ≡ true → orStop (outcomeOf start h a) later ≡ []) × (waited UntilRefusal o ≡ false → orStop (outcomeOf start h a) later ≡ later)
+stop-told start h a o news e = by-outcome (outcomeOf start h a) (itemLine a) o (told-refused start h a o news e)
 
 quiet-or : (o : LineAnswer) (r : Option Refusal) → waited UntilRefusal o ≡ false → orRefused o r ≡ r
 quiet-or Nothing r e = refl
@@ -46,44 +46,44 @@ waited-or (Accepted line k) r e = absurd (false≢true e)
 waited-or (Refused line k) r e = refl
 
 -- What is known of lines, where the answer o ended the reading: it is their first refusal, if there is one, and these are the lines up to it.
-pub record Decided (limit : ℕ) (h : History) (lines : List Item) (o : LineAnswer) (first : List Item) : Type 0 where
-  pub refusal : firstRefusal limit h lines ≡ orRefused o none
-  pub upTo : upToRefusal limit h lines ≡ first
+pub record Decided (start : Graph) (h : History) (lines : List Item) (o : LineAnswer) (first : List Item) : Type 0 where
+  pub refusal : firstRefusal start h lines ≡ orRefused o none
+  pub upTo : upToRefusal start h lines ≡ first
 
-module _ {limit : ℕ} {h : History} {g g₁ : Graph} {t : Tables} {p : Passed} (s : Standing limit h g t) (c : Came (p .item) g t g₁ (p .after) (p .answer)) where
-  told : lineOutcome (p .answer) (p .after .news) ≡ lineTold limit h (p .item)
+module _ {start : Graph} {h : History} {g g₁ : Graph} {t : Tables} {p : Passed} (s : Standing start h g t) (c : Came (p .item) g t g₁ (p .after) (p .answer)) where
+  told : lineOutcome (p .answer) (p .after .news) ≡ lineTold start h (p .item)
   told = line-right s c .0
 
-  step-quiet : {lines first : List Item} {o : LineAnswer} → waited UntilRefusal (p .answer) ≡ false → Decided limit (afterItem limit h (p .item)) lines o first → Decided limit h (p .item ∷ lines) o (p .item ∷ first)
+  step-quiet : {lines first : List Item} {o : LineAnswer} → waited UntilRefusal (p .answer) ≡ false → Decided start (afterItem start h (p .item)) lines o first → Decided start h (p .item ∷ lines) o (p .item ∷ first)
   step-quiet {lines} e d =
-      let r = firstRefusal limit (afterItem limit h (p .item)) lines in
-      let l = upToRefusal limit (afterItem limit h (p .item)) lines in
+      let r = firstRefusal start (afterItem start h (p .item)) lines in
+      let l = upToRefusal start (afterItem start h (p .item)) lines in
       record {
-        refusal = told-refused limit h (p .item) (p .answer) (p .after .news) told r ∙ quiet-or (p .answer) r e ∙ d .refusal;
-        upTo = ap (λ (x : List Item). p .item ∷ x) (stop-told limit h (p .item) (p .answer) (p .after .news) told l .1 e ∙ d .upTo);
+        refusal = told-refused start h (p .item) (p .answer) (p .after .news) told r ∙ quiet-or (p .answer) r e ∙ d .refusal;
+        upTo = ap (λ (x : List Item). p .item ∷ x) (stop-told start h (p .item) (p .answer) (p .after .news) told l .1 e ∙ d .upTo);
       }
 
-  step-found : (lines : List Item) → waited UntilRefusal (p .answer) ≡ true → Decided limit h (p .item ∷ lines) (p .answer) (p .item ∷ [])
+  step-found : (lines : List Item) → waited UntilRefusal (p .answer) ≡ true → Decided start h (p .item ∷ lines) (p .answer) (p .item ∷ [])
   step-found lines e =
-      let r = firstRefusal limit (afterItem limit h (p .item)) lines in
-      let l = upToRefusal limit (afterItem limit h (p .item)) lines in
+      let r = firstRefusal start (afterItem start h (p .item)) lines in
+      let l = upToRefusal start (afterItem start h (p .item)) lines in
       record {
-        refusal = told-refused limit h (p .item) (p .answer) (p .after .news) told r ∙ waited-or (p .answer) r e;
-        upTo = ap (λ (x : List Item). p .item ∷ x) (stop-told limit h (p .item) (p .answer) (p .after .news) told l .0 e);
+        refusal = told-refused start h (p .item) (p .answer) (p .after .news) told r ∙ waited-or (p .answer) r e;
+        upTo = ap (λ (x : List Item). p .item ∷ x) (stop-told start h (p .item) (p .answer) (p .after .news) told l .0 e);
       }
 
-found-at : {limit : ℕ} {h : History} {g g′ : Graph} {t t′ : Tables} (before : List Passed) (p : Passed) → Standing limit h g t → Applies g t (before ++ (p ∷ [])) g′ t′ → Quiet UntilRefusal before → waited UntilRefusal (p .answer) ≡ true → (rest : List Item) → Decided limit h (itemsOf (before ++ (p ∷ [])) ++ rest) (p .answer) (itemsOf (before ++ (p ∷ [])))
+found-at : {start : Graph} {h : History} {g g′ : Graph} {t t′ : Tables} (before : List Passed) (p : Passed) → Standing start h g t → Applies g t (before ++ (p ∷ [])) g′ t′ → Quiet UntilRefusal before → waited UntilRefusal (p .answer) ≡ true → (rest : List Item) → Decided start h (itemsOf (before ++ (p ∷ [])) ++ rest) (p .answer) (itemsOf (before ++ (p ∷ [])))
 found-at [] p s (next c a) q w rest = step-found s c rest w
 found-at (b ∷ before) p s (next c a) q w rest = step-quiet s c (q .0) (found-at before p (line-right s c .1) a (q .1) w rest)
 
-quiet-all : {limit : ℕ} {h : History} {g g′ : Graph} {t t′ : Tables} {l : List Passed} → Standing limit h g t → Applies g t l g′ t′ → Quiet UntilRefusal l → Decided limit h (itemsOf l) Nothing (itemsOf l)
+quiet-all : {start : Graph} {h : History} {g g′ : Graph} {t t′ : Tables} {l : List Passed} → Standing start h g t → Applies g t l g′ t′ → Quiet UntilRefusal l → Decided start h (itemsOf l) Nothing (itemsOf l)
 quiet-all s no-line q = record { refusal = refl; upTo = refl }
 quiet-all s (next c a) q = step-quiet s c (q .0) (quiet-all (line-right s c .1) a (q .1))
 
 -- Lines that stop at a refusal, whatever follows, or that are all there are.
-pub decides : {limit : ℕ} {h : History} {g g′ : Graph} {t t′ : Tables} {l : List Passed} {left : List ℕ} {o : LineAnswer} → Standing limit h g t → Applies g t l g′ t′ → Stops UntilRefusal l left o → (rest : List Item) → (o ≡ Nothing → rest ≡ []) → Decided limit h (itemsOf l ++ rest) o (itemsOf l)
-decides {limit} {h} {l = l} s a (found before p e q w z) rest n = rw (e, z) (found-at before p s (rw e at a) q (rw z at w) rest)
-decides {limit} {h} {l = l} s a (ended q e z) rest n = rw (z, n z, append-nil (itemsOf l)) (quiet-all s a q)
+pub decides : {start : Graph} {h : History} {g g′ : Graph} {t t′ : Tables} {l : List Passed} {left : List ℕ} {o : LineAnswer} → Standing start h g t → Applies g t l g′ t′ → Stops UntilRefusal l left o → (rest : List Item) → (o ≡ Nothing → rest ≡ []) → Decided start h (itemsOf l ++ rest) o (itemsOf l)
+decides {start} {h} {l = l} s a (found before p e q w z) rest n = rw (e, z) (found-at before p s (rw e at a) q (rw z at w) rest)
+decides {start} {h} {l = l} s a (ended q e z) rest n = rw (z, n z, append-nil (itemsOf l)) (quiet-all s a q)
 
 quiet-then : (l m : List Passed) → Quiet UntilRefusal l → Quiet UntilRefusal m → Quiet UntilRefusal (l ++ m)
 quiet-then [] m a b = b

@@ -58,24 +58,24 @@ by-told line x (Refused m k) news e r =
     rw (z, y)
 
 -- what the definitions say of a line, and what came of it
-pub told-refused : (limit : ℕ) (h : History) (a : Item) (o : LineAnswer) (news : List ℕ) → lineOutcome o news ≡ lineTold limit h a → (r : Option Refusal) → orLater (outcomeOf limit h a) (itemLine a) r ≡ orRefused o r
-told-refused limit h NoLine o news e r = nothing o e
+pub told-refused : (start : Graph) (h : History) (a : Item) (o : LineAnswer) (news : List ℕ) → lineOutcome o news ≡ lineTold start h a → (r : Option Refusal) → orLater (outcomeOf start h a) (itemLine a) r ≡ orRefused o r
+told-refused start h NoLine o news e r = nothing o e
   where
     nothing : (x : LineAnswer) → lineOutcome x news ≡ none → r ≡ orRefused x r
     nothing Nothing q = refl
     nothing (Accepted line k) q = refl
     nothing (Refused line k) q = absurd (let z : _≡_ {A = ℕ} 0 1 = cc in omega arith)
-told-refused limit h (Sent n) o news e r = by-told (itemLine (Sent n)) (outcomeOf limit h (Sent n)) o news e r
-told-refused limit h (Malformed n) o news e r = by-told (itemLine (Malformed n)) (outcomeOf limit h (Malformed n)) o news e r
-told-refused limit h BadNames o news e r = by-told (itemLine BadNames) (outcomeOf limit h BadNames) o news e r
-told-refused limit h TooMany o news e r = by-told (itemLine TooMany) (outcomeOf limit h TooMany) o news e r
+told-refused start h (Sent n) o news e r = by-told (itemLine (Sent n)) (outcomeOf start h (Sent n)) o news e r
+told-refused start h (Malformed n) o news e r = by-told (itemLine (Malformed n)) (outcomeOf start h (Malformed n)) o news e r
+told-refused start h BadNames o news e r = by-told (itemLine BadNames) (outcomeOf start h BadNames) o news e r
+told-refused start h TooMany o news e r = by-told (itemLine TooMany) (outcomeOf start h TooMany) o news e r
 
 -- On tables that stand, the first refusal by the definitions is the first by what came of the lines.
-first-refused : {limit : ℕ} {h : History} {g g′ : Graph} {t t′ : Tables} {l : List Passed} → Standing limit h g t → Applies g t l g′ t′ → firstRefusal limit h (itemsOf l) ≡ refusalIn l
+first-refused : {start : Graph} {h : History} {g g′ : Graph} {t t′ : Tables} {l : List Passed} → Standing start h g t → Applies g t l g′ t′ → firstRefusal start h (itemsOf l) ≡ refusalIn l
 first-refused s no-line = refl
-first-refused {limit} {h} s (next {p = p} {l = l} c a) =
+first-refused {start} {h} s (next {p = p} {l = l} c a) =
     let w = line-right s c in
-    told-refused limit h (p .item) (p .answer) (p .after .news) (w .0) (firstRefusal limit (afterItem limit h (p .item)) (itemsOf l)) ∙
+    told-refused start h (p .item) (p .answer) (p .after .news) (w .0) (firstRefusal start (afterItem start h (p .item)) (itemsOf l)) ∙
     ap (orRefused (p .answer)) (first-refused (w .1) a)
 
 -- no line of them is refused
@@ -132,7 +132,7 @@ reads-refused limit bytes {t} {t′} {r} {k} o e = at (openRefusal limit t) refl
           answer = rw (q, z);
           unchanged = λ i w. same;
           stands = λ w. absurd (let y : _≡_ {A = ℕ} 0 1 = cc in omega arith);
-          kept = rw same (tables-same readerStates limit t);
+          kept = rw same (tables-same readerStates readerStates limit t);
         }
 
 -- Opened: the three parts of the reading.
@@ -148,7 +148,7 @@ module _
   begun : (start .graph ≡ readerGraph limit) × (t₁ ≡ freshened limit t)
   begun = let w = ready-opened opens ready in (rw same (w .1), w .2)
 
-  stood : Standing limit [] (start .graph) t₁
+  stood : Standing (readerGraph limit) [] (start .graph) t₁
   stood = rw same (ready-stands opens ready)
 
   abbrev lines : List Passed
@@ -165,7 +165,7 @@ module _
       append-assoc (itemsOf (first .follows .passed)) (itemsOf (rest .follows .passed)) (itemsOf (last .follows .passed)) ∙
       sym (items-then (first .follows .passed) (rest .follows .passed ++ last .follows .passed) ∙ ap (λ (x : List Item). itemsOf (first .follows .passed) ++ x) (items-then (rest .follows .passed) (last .follows .passed)))
 
-  stands : Standing limit (historyOf limit bytes) (e .graph) t₄
+  stands : Standing (readerGraph limit) (historyOf limit bytes) (e .graph) t₄
   stands = rw told (applies-stands stood applied)
 
   pub reads-whole : Reads limit bytes t t₄ (readWith e o₁ o₃)
@@ -174,8 +174,8 @@ module _
       record {
         answer =
             with-answer e (first .follows .passed) (rest .follows .passed) (last .follows .passed) left₁ left₃ o₁ o₃ (first .stops) (rest .idle) (last .stops) ∙
-            ap (λ (x : Option Refusal). accepted (record { graph = e .graph; refusal = x })) (sym (first-refused stood applied) ∙ ap (firstRefusal limit []) (sym told)) ∙
-            ap (λ (x : Graph). accepted (record { graph = x; refusal = firstRefusal limit [] (items bytes) })) g ∙
+            ap (λ (x : Option Refusal). accepted (record { graph = e .graph; refusal = x })) (sym (first-refused stood applied) ∙ ap (firstRefusal (readerGraph limit) []) (sym told)) ∙
+            ap (λ (x : Graph). accepted (record { graph = x; refusal = firstRefusal (readerGraph limit) [] (items bytes) })) g ∙
             ap (λ (x : Option ℕ). byNumber x (readingOf limit bytes)) (sym passes);
         unchanged = λ k q. absurd (let p = passes in let z : _≡_ {A = ℕ} 0 1 = cc in omega arith);
         stands = λ q. rw g at stands;

@@ -8,7 +8,7 @@ use lib.Dec.{eqb}
 use lib.ListN.{length}
 use Rattle.gid.specs.Refusals.{maxStates}
 use Rattle.tables.specs.declared.Graph.{Graph}
-use Rattle.tables.specs.Tables.{Tables}
+use Rattle.tables.specs.Tables.{Tables, nodesOf}
 use Rattle.tables.specs.Keeping.{KeptTables}
 use Rattle.record.specs.declared.splitter.Item.{Item}
 use Rattle.record.specs.declared.splitter.Splitter.{Splitter}
@@ -69,7 +69,7 @@ pub record Follows (s : Splitter) (bytes : List ℕ) (g : Graph) (t : Tables) (s
   pub told : (rest : List ℕ) → run s (bytes ++ rest) ≡ itemsOf passed ++ run s′ (bytes′ ++ rest)
   -- The splitter is where all of the bytes, one by one, would have brought it.
   pub fed : afterBytes s bytes ≡ afterBytes s′ bytes′
-  pub kept : KeptTables (g .n) (g .limit) t t′
+  pub kept : KeptTables (g .n) (nodesOf g) (g .limit) t t′
 
 -- The same, up to a line that is waited for.
 pub record Advances (until : Until) (s : Splitter) (bytes : List ℕ) (g : Graph) (t : Tables) (s′ : Splitter) (bytes′ : List ℕ) (g′ : Graph) (t′ : Tables) (answer : LineAnswer) : Type 0 where

@@ -1,6 +1,7 @@
 -- Opening the tables: "It tests 2 and 3 first, then makes the lent tables fresh (the news list keeps its contents), with n = 2,048 and its caller's step limit."
 -- Assumes nothing.
 use mathlib.Core.Path.{_≡_}
+use mathlib.Core.Bool.{false}
 use mathlib.Core.List.{[]}
 use mathlib.Core.Option.{Option, some, none}
 use Prim.Native.Nat.{ℕ}
@@ -8,23 +9,23 @@ use Rattle.gid.specs.Successors.{noSuccessor}
 use Rattle.gid.specs.Refusals.{maxStates, first, lent}
 use Rattle.gid.specs.Outcomes.{Outcome, refused, accepted, byNumber}
 use Rattle.tables.specs.declared.Graph.{Graph}
-use Rattle.tables.specs.Tables.{Tables, enough, needs, lengths}
+use Rattle.tables.specs.Tables.{Tables, visitedLength, longEnough}
 use Rattle.tables.specs.Keeping.{filled}
 use Rattle.tables.specs.Refused.{given}
 use Rattle.reader.specs.declared.start.Opened.{Opened}
 use Rattle.reader.specs.declared.start.Opened.the-variants.{Ready, Refused}
 
--- The states of a reader's tables.
+-- For how many states a reader makes tables fresh.
 abbrev pub readerStates : ℕ
 readerStates = maxStates
 
--- The state value of a reader's fresh tables.
+-- The state value that a reader starts with.
 abbrev pub readerGraph : ℕ → Graph
 readerGraph limit = record { n = readerStates; limit = limit; steps = 0 }
 
 -- The number of the test 2 or 3, if it applies (1 and 4 never do).
 abbrev pub openRefusal : ℕ → Tables → Option ℕ
-openRefusal limit t = first (lent (given (readerGraph limit) (enough (needs readerStates limit (lengths t))) [] []))
+openRefusal limit t = first (lent (given (readerGraph limit) (longEnough (readerGraph limit) t) false [] []))
 
 -- The tables made fresh (proofs/Opening.antt: `opened-fresh`).
 abbrev pub freshened : ℕ → Tables → Tables
@@ -39,7 +40,7 @@ freshened limit t =
       inHead = filled readerStates 0 (t .inHead);
       outHead = filled readerStates 0 (t .outHead);
       queue = filled readerStates 0 (t .queue);
-      visited = filled readerStates 0 (t .visited);
+      visited = filled (visitedLength readerStates) 0 (t .visited);
       inNext = filled limit 0 (t .inNext);
       outNext = filled limit 0 (t .outNext);
     }

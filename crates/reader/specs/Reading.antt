@@ -4,8 +4,9 @@ use mathlib.Core.Path.{_≡_}
 use mathlib.Core.List.{List, []}
 use mathlib.Core.Option.{Option, some, none}
 use Prim.Native.Nat.{ℕ}
-use Rattle.gid.specs.Histories.{History}
-use Rattle.gid.specs.Outcomes.{Outcome, refused, accepted, byNumber, countSteps}
+use lib.ListN.{length}
+use Rattle.gid.specs.Histories.{History, listed}
+use Rattle.gid.specs.Outcomes.{Outcome, refused, accepted, byNumber}
 use Rattle.tables.specs.declared.Graph.{Graph}
 use Rattle.tables.specs.Tables.{Tables}
 use Rattle.tables.specs.Keeping.{KeptTables}
@@ -15,13 +16,16 @@ use Rattle.reader.specs.declared.ReadAnswer.{ReadAnswer}
 use Rattle.reader.specs.declared.ReadAnswer.the-variants.{Refused, Accepted, Partly}
 use Rattle.reader.specs.declared.driver.LineAnswer.{LineAnswer}
 use Rattle.reader.specs.declared.driver.LineAnswer.the-variants.{Nothing as NoLine, Accepted as Yes, Refused as No}
-use Rattle.reader.specs.Opening.{readerStates, openRefusal}
+use Rattle.reader.specs.Opening.{readerStates, readerGraph, openRefusal}
 use Rattle.reader.specs.Replaying.{historyOf, Refusal, firstRefusal}
 use Rattle.reader.specs.Standing.{Standing}
 
 -- "The listing program and the C call use limit 2,048."
 abbrev pub recordLimit : ℕ
 recordLimit = 2048
+
+abbrev pub recordGraph : Graph
+recordGraph = readerGraph recordLimit
 
 -- What a record that was read comes to: the state value after its last line, and its first refusal, if there is one.
 pub record Reading : Type 0 where
@@ -35,21 +39,21 @@ readOutcome (Accepted e) = accepted (record { graph = e .graph; refusal = none }
 readOutcome (Partly e line k) = accepted (record { graph = e .graph; refusal = some (record { line = line; number = k }) })
 
 -- By the definitions: the accepted steps are counted, and the first line that is refused decides.
-abbrev pub graphOf : ℕ → History → Graph
-graphOf limit h = record { n = readerStates; limit = limit; steps = countSteps h }
+abbrev pub graphOf : Graph → History → Graph
+graphOf start h = record { n = start .n; limit = start .limit; steps = length (listed h) }
 
 abbrev pub graphAfterRecord : ℕ → List ℕ → Graph
-graphAfterRecord limit bytes = graphOf limit (historyOf limit bytes)
+graphAfterRecord limit bytes = graphOf (readerGraph limit) (historyOf limit bytes)
 
 abbrev pub readingOf : ℕ → List ℕ → Reading
-readingOf limit bytes = record { graph = graphAfterRecord limit bytes; refusal = firstRefusal limit [] (items bytes) }
+readingOf limit bytes = record { graph = graphAfterRecord limit bytes; refusal = firstRefusal (readerGraph limit) [] (items bytes) }
 
 -- Refused with 2 or 3, and nothing lent changes. Else the tables stand for the history of the record's accepted lines, and no entry past a needed length is touched.
 pub record Reads (limit : ℕ) (bytes : List ℕ) (t t′ : Tables) (r : ReadAnswer) : Type 0 where
   pub answer : readOutcome r ≡ byNumber (openRefusal limit t) (readingOf limit bytes)
   pub unchanged : (k : ℕ) → openRefusal limit t ≡ some k → t′ ≡ t
-  pub stands : openRefusal limit t ≡ none → Standing limit (historyOf limit bytes) (graphAfterRecord limit bytes) t′
-  pub kept : KeptTables readerStates limit t t′
+  pub stands : openRefusal limit t ≡ none → Standing (readerGraph limit) (historyOf limit bytes) (graphAfterRecord limit bytes) t′
+  pub kept : KeptTables readerStates readerStates limit t t′
 
 -- The answer by what came of a line that may be the first refusal, and before it another.
 abbrev pub readBy : Engine → LineAnswer → ReadAnswer

@@ -13,7 +13,7 @@ use Rattle.reader.specs.Replaying.{afterItems}
 use Rattle.reader.specs.Standing.{Standing}
 
 -- The bytes `got` of a record have come, and `left` of them are still to be read. The lines read so far are its first ones, whatever follows, and the tables stand for what they come to.
-pub record Underway (limit : ℕ) (got : List ℕ) (s : Splitter) (left : List ℕ) (g : Graph) (t : Tables) : Type 0 where
+pub record Underway (start : Graph) (got : List ℕ) (s : Splitter) (left : List ℕ) (g : Graph) (t : Tables) : Type 0 where
   pub lines : List Item
   pub told : (rest : List ℕ) → items (got ++ rest) ≡ lines ++ run s (left ++ rest)
-  pub stands : Standing limit (afterItems limit [] lines) g t
+  pub stands : Standing start (afterItems start [] lines) g t

@@ -8,6 +8,7 @@ use tables::MAX_STATES;
 use tables::NO_SUCCESSOR;
 use tables::fill;
 use tables::fill_bytes;
+use tables::visited_len;
 
 // The state value of the fresh tables, or the number of a refusal.
 pub enum Opened {
@@ -52,7 +53,7 @@ pub fn open(
         limit,
         steps: 0,
     };
-    let refused = graph.lent(lengths.enough(MAX_STATES, limit));
+    let refused = graph.lent(lengths.enough(MAX_STATES, graph.nodes(), limit));
     if refused != 0 {
         return Opened::Refused(refused);
     }
@@ -62,7 +63,7 @@ pub fn open(
     fill(in_head, MAX_STATES, 0);
     fill(out_head, MAX_STATES, 0);
     fill(queue, MAX_STATES, 0);
-    fill(visited, MAX_STATES, 0);
+    fill(visited, visited_len(MAX_STATES), 0);
     fill(in_next, limit, 0);
     fill(out_next, limit, 0);
     Opened::Ready(Engine { graph })

@@ -13,6 +13,7 @@ use lib.ListN.{length, length-append}
 use borrow.Author.Tests.{ne-eqb, le-leb, eqb-true, eqb-false, leb-true}
 use Rattle.gid.specs.declared.Update.{Update}
 use Rattle.gid.specs.declared.Update.the-variants.{Step, Terminal, Close}
+use Rattle.gid.specs.Updates.{edge}
 use Rattle.record.specs.Text.{decimal, head, last, text, maxValue, Within}
 use Rattle.record.specs.Grammar.{Front, isDigit, digits, value, behind, whole, step, markWith, update, fields, lineOf, _andThen_}
 use Rattle.record.proofs.Decimals.{decimal-digit, decimal-more, decimal-then, five-digits}
@@ -68,21 +69,21 @@ fields-head : (kind from : ℕ) → from ≤ maxValue → (t : List ℕ) → fie
 unfolding fields behind
 fields-head kind from h t = rw (append-assoc (decimal from) (32 ∷ []) t, value-back from h (32 ∷ t) refl)
 
-step-text : (from to : ℕ) → to ≤ maxValue → step from (decimal to) ≡ some (Step from to)
+step-text : (from to : ℕ) → to ≤ maxValue → step from (decimal to) ≡ some (Step (edge from to))
 unfolding step
 step-text from to h =
     rw (subst (λ (l : List ℕ). value l ≡ some (record { number = to; rest = [] })) (append-nil (decimal to)) (value-back to h [] tt))
 
 fields-text : (x : Update) → Within x → fields (text x) ≡ some x
 unfolding update markWith behind
-fields-text (Step u v) h = fields-head 69 u (h .0) (decimal v) ∙ step-text u v (h .1)
+fields-text (Step e) h = fields-head 69 (e .from) (h .0) (decimal (e .to)) ∙ step-text (e .from) (e .to) (h .1)
 fields-text (Terminal u) h = fields-head 84 u h (45 ∷ [])
 fields-text (Close u) h = fields-head 67 u h (45 ∷ [])
 
 -- A line has at most 13 bytes.
 pub text-length : (x : Update) → Within x → length (text x) ≤ 13
-text-length (Step u v) h =
-    omega (arith, length-append (head 69 u) (decimal v), length-append (decimal u) (32 ∷ []), five-digits u (omega (arith, h .0)), five-digits v (omega (arith, h .1)))
+text-length (Step e) h =
+    omega (arith, length-append (head 69 (e .from)) (decimal (e .to)), length-append (decimal (e .from)) (32 ∷ []), five-digits (e .from) (omega (arith, h .0)), five-digits (e .to) (omega (arith, h .1)))
 text-length (Terminal u) h = omega (arith, length-append (head 84 u) (45 ∷ []), length-append (decimal u) (32 ∷ []), five-digits u (omega arith))
 text-length (Close u) h = omega (arith, length-append (head 67 u) (45 ∷ []), length-append (decimal u) (32 ∷ []), five-digits u (omega arith))
 
@@ -169,9 +170,9 @@ Read kind from to x = (head kind from ++ to ≡ text x) × Within x
 step-taken : (u : ℕ) (l : List ℕ) (x : Update) → u ≤ maxValue → step u l ≡ some x → Read 69 u l x
 unfolding step Taken Read
 step-taken u l x h e =
-    let t = taken (value l) (λ to. whole (Step u (to .number)) (to .rest)) x e in
+    let t = taken (value l) (λ to. whole (Step (edge u (to .number))) (to .rest)) x e in
     let v = value-taken l (t .0) (t .1) in
-    let w = whole-taken (Step u (t .0 .number)) x (t .0 .rest) (t .2) in
+    let w = whole-taken (Step (edge u (t .0 .number))) x (t .0 .rest) (t .2) in
     subst (λ (x : Update). (head 69 u ++ l ≡ text x) × Within x) (w .1)
     (ap (λ (l : List ℕ). head 69 u ++ l) (v .0 ∙ ap (λ (r : List ℕ). decimal (t .0 .number) ++ r) (w .0) ∙ append-nil (decimal (t .0 .number))), (h, v .1))
 

@@ -8,6 +8,7 @@ use lib.Dec.{leb, eqb}
 use lib.ListN.{length}
 use Rattle.gid.specs.declared.Update.{Update}
 use Rattle.gid.specs.declared.Update.the-variants.{Step, Terminal, Close}
+use Rattle.gid.specs.Updates.{edge}
 use Rattle.record.specs.Text.{maxValue}
 
 -- What was read at the front of some bytes, and the bytes behind it.
@@ -49,7 +50,7 @@ whole x (b ∷ l) = none
 
 -- "`E 3 4` a step": `to` is a value.
 unfoldable pub step : ℕ → List ℕ → Option Update
-step from l = value l andThen λ to. whole (Step from (to .number)) (to .rest)
+step from l = value l andThen λ to. whole (Step (edge from (to .number))) (to .rest)
 
 -- "`T 3 -` a terminal mark, `C 3 -` a close": "`to` is `-` exactly for T and C."
 unfoldable pub markWith : Update → List ℕ → Option Update

@@ -44,7 +44,7 @@ abbrev pub maxValue : ℕ
 maxValue = 65535
 
 abbrev pub Within : Update → Type 0
-Within (Step u v) = (u ≤ maxValue) × (v ≤ maxValue)
+Within (Step e) = (e .from ≤ maxValue) × (e .to ≤ maxValue)
 Within (Terminal u) = u ≤ maxValue
 Within (Close u) = u ≤ maxValue
 

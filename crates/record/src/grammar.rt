@@ -6,6 +6,7 @@ ghost use Rattle.record.specs.Grammar.{digits, value, behind, step, mark
 ghost use Rattle.record.specs.Buffer.{lineIn};
 ghost use Rattle.record.specs.Parsing.{parsed, digitOf, front, rest};
 use crate::line::Line;
+use gid::Edge;
 use gid::Update;
 
 // "A value is decimal, 0 to 65,535"
@@ -84,7 +85,9 @@ fn parse_step(s: &[u8], at: usize, from: usize) -> Parsed
     if next < s.len() {
         return Parsed::Malformed;
     }
-    Parsed::Update(Update::Step { from, to: number })
+    Parsed::Update(Update::Step {
+        edge: Edge { from, to: number },
+    })
 }
 
 // The `to` of a terminal mark or a close: a dash up to the line's end.

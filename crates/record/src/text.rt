@@ -6,6 +6,7 @@ ghost use lib.ListN.{length};
 ghost use Rattle.gid.specs.declared.Update.{Update};
 ghost use mathlib.Core.Option.{none};
 ghost use Rattle.record.specs.Text.{decimal, head, last, text, Wrote, WroteAt};
+use gid::Edge;
 use gid::Update;
 
 pub fn put_byte(buf: &mut [u8], b: u8) -> usize
@@ -54,18 +55,18 @@ pub fn put_update(buf: &mut [u8], update: Update) -> usize
     ensures { λ r. ⌜ Wrote (text update ++ (10 ∷ [])) (now (buf .entry)) (now (buf .exit)) r ⌝ }
 {
     match update {
-        Update::Step { from, to } => put_step(buf, from, to),
+        Update::Step { edge } => put_step(buf, edge),
         Update::Terminal { state } => put_mark(buf, b'T', state),
         Update::Close { state } => put_mark(buf, b'C', state),
     }
 }
 
-fn put_step(buf: &mut [u8], from: usize, to: usize) -> usize
-    requires { ⌜ length (text (Update.Step from to)) < length (now buf) ⌝ }
-    ensures { λ r. ⌜ Wrote (text (Update.Step from to) ++ (10 ∷ [])) (now (buf .entry)) (now (buf .exit)) r ⌝ }
+fn put_step(buf: &mut [u8], edge: Edge) -> usize
+    requires { ⌜ length (text (Update.Step edge)) < length (now buf) ⌝ }
+    ensures { λ r. ⌜ Wrote (text (Update.Step edge) ++ (10 ∷ [])) (now (buf .entry)) (now (buf .exit)) r ⌝ }
 {
-    let at = put_head(buf, b'E', from);
-    let end = put_number_at(buf, at, to);
+    let at = put_head(buf, b'E', edge.from);
+    let end = put_number_at(buf, at, edge.to);
     buf[end] = b'\n';
     end + 1
 }

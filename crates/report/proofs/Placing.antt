@@ -17,7 +17,8 @@ use Rattle.record.proofs.Decimals.{five-digits}
 use Rattle.record.proofs.Placing.{placed-then}
 use Rattle.reader.specs.Opening.{readerStates}
 use Rattle.report.specs.declared.totals.Totals.{Totals}
-use Rattle.report.specs.Texts.{openWord, unknownWord, endLiveWord, endDeadWord, ending, row, newsText, verdictWord, having, totalsOf, totalsText}
+use Rattle.report.specs.Texts.{openWord, unknownWord, endLiveWord, endDeadWord, ending, row, newsText, verdictWord, having, totalsText}
+use Rattle.report.specs.Printing.{totalsOf}
 
 pub ending-length : (word : List ℕ) (n : ℕ) → length (ending word n) ≡ length word + length (decimal n) + 1
 unfolding ending

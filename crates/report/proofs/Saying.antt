@@ -24,13 +24,13 @@ use Rattle.record.specs.declared.splitter.Item.{Item}
 use Rattle.reader.specs.declared.driver.LineAnswer.{LineAnswer}
 use Rattle.reader.specs.declared.driver.LineAnswer.the-variants.{Nothing, Accepted, Refused}
 use Rattle.reader.specs.declared.driver.Until.the-variants.{News}
-use Rattle.reader.specs.Opening.{readerStates}
+use Rattle.reader.specs.Opening.{readerGraph}
 use Rattle.reader.specs.Turning.{Told, lineOutcome, lineAnswer, Came, sent, nothing, malformed, badNames, tooMany}
 use Rattle.reader.specs.Replaying.{outcomeOf, afterItem, afterItems}
 use Rattle.reader.specs.Standing.{Standing}
 use Rattle.reader.specs.Advancing.{Passed, itemsOf, Applies, none as no-line, next, waited, Quiet, Stops, found, ended}
 use Rattle.reader.proofs.Lines.{line-right}
-use Rattle.report.specs.Texts.{newsText, totalsOf, totalsText}
+use Rattle.report.specs.Texts.{newsText, totalsBelow, totalsText}
 use Rattle.report.specs.Listing.{outcomeText, lineText, linesText}
 use Rattle.report.specs.Printing.{answerText, passedText, tableTotals}
 
@@ -55,12 +55,12 @@ told-text f line x (Refused m k) news status e q =
     rw (y, z)
 
 -- One line.
-pub line-says : {limit : ℕ} {h : History} {a : Item} {g g′ : Graph} {t t′ : Tables} {o : LineAnswer} → Standing limit h g t → Came a g t g′ t′ o → answerText o (t′ .news) (t′ .status) ≡ lineText limit h a
+pub line-says : {start : Graph} {h : History} {a : Item} {g g′ : Graph} {t t′ : Tables} {o : LineAnswer} → Standing start h g t → Came a g t g′ t′ o → answerText o (t′ .news) (t′ .status) ≡ lineText start h a
 unfolding lineText newsText
 line-says s nothing = refl
-line-says {limit} {h} {g = g} {g′ = g′} {t = t} {t′ = t′} {o = o} s (sent {r = r} {a = a} p e q) =
+line-says {start} {h} {g = g} {g′ = g′} {t = t} {t′ = t′} {o = o} s (sent {r = r} {a = a} p e q) =
     let w = line-right s (sent {r = r} p e q) in
-    told-text (status (afterItem limit h (Rattle.record.specs.declared.splitter.Item.the-variants.Update r))) (r .line) (outcomeOf limit h (Rattle.record.specs.declared.splitter.Item.the-variants.Update r)) o (t′ .news) (t′ .status) (w .0)
+    told-text (status (afterItem start h (Rattle.record.specs.declared.splitter.Item.the-variants.Update r))) (r .line) (outcomeOf start h (Rattle.record.specs.declared.splitter.Item.the-variants.Update r)) o (t′ .news) (t′ .status) (w .0)
     (λ x k i m z. w .1 .fits .status x (rw (w .1 .states) (rw (s .states) at (by a p (sym e ∙ z) i))))
   where
     by : {x k m : ℕ} (b : Answer) → Promise g (r .update) t g′ b t′ → lineAnswer (r .line) b ≡ Accepted m k → List·Memᴰ x (take k (t′ .news)) → x < g .n
@@ -71,30 +71,30 @@ line-says s badNames = refl
 line-says s tooMany = refl
 
 -- All lines.
-pub lines-say : {limit : ℕ} {h : History} {g g′ : Graph} {t t′ : Tables} {l : List Passed} → Standing limit h g t → Applies g t l g′ t′ → passedText l ≡ linesText limit h (itemsOf l)
+pub lines-say : {start : Graph} {h : History} {g g′ : Graph} {t t′ : Tables} {l : List Passed} → Standing start h g t → Applies g t l g′ t′ → passedText l ≡ linesText start h (itemsOf l)
 unfolding passedText linesText
 lines-say s no-line = refl
 lines-say s (next c a) = rw (line-says s c, lines-say (line-right s c .1) a)
 
-pub lines-then : (limit : ℕ) (h : History) (l m : List Item) → linesText limit h (l ++ m) ≡ linesText limit h l ++ linesText limit (afterItems limit h l) m
+pub lines-then : (start : Graph) (h : History) (l m : List Item) → linesText start h (l ++ m) ≡ linesText start h l ++ linesText start (afterItems start h l) m
 unfolding linesText
-lines-then limit h [] m = refl
-lines-then limit h (a ∷ l) m = rw (lines-then limit (afterItem limit h a) l m) (sym (append-assoc (lineText limit h a) (linesText limit (afterItem limit h a) l) (linesText limit (afterItems limit (afterItem limit h a) l) m)))
+lines-then start h [] m = refl
+lines-then start h (a ∷ l) m = rw (lines-then start (afterItem start h a) l m) (sym (append-assoc (lineText start h a) (linesText start (afterItem start h a) l) (linesText start (afterItems start (afterItem start h a) l) m)))
 
 pub passed-then : (l m : List Passed) → passedText (l ++ m) ≡ passedText l ++ passedText m
 unfolding passedText
 passed-then [] m = refl
 passed-then (p ∷ l) m = rw (passed-then l m) (sym (append-assoc (answerText (p .answer) (p .after .news) (p .after .status)) (passedText l) (passedText m)))
 
-totals-same : (f g : ℕ → ℕ) → ((s : ℕ) → s < readerStates → f s ≡ g s) → totalsOf f ≡ totalsOf g
-totals-same f g e = rw (each 1, each 2, each 3, each 4) refl
+totals-same : (n : ℕ) (f g : ℕ → ℕ) → ((s : ℕ) → s < n → f s ≡ g s) → totalsBelow n f ≡ totalsBelow n g
+totals-same n f g e = rw (each 1, each 2, each 3, each 4) refl
   where
-    each : (k : ℕ) → below readerStates (λ s. eqb (f s) k) ≡ below readerStates (λ s. eqb (g s) k)
-    each k = below-same readerStates (λ s. eqb (f s) k) (λ s. eqb (g s) k) (λ s h. ap (λ (x : ℕ). eqb x k) (e s h))
+    each : (k : ℕ) → below n (λ s. eqb (f s) k) ≡ below n (λ s. eqb (g s) k)
+    each k = below-same n (λ s. eqb (f s) k) (λ s. eqb (g s) k) (λ s h. ap (λ (x : ℕ). eqb x k) (e s h))
 
 -- The totals of tables that fit are those of the history.
-pub totals-say : {limit : ℕ} {h : History} {g : Graph} {t : Tables} → Standing limit h g t → tableTotals (t .status) ≡ totalsText (totalsOf (status h))
-totals-say {h = h} {t = t} s = ap totalsText (totals-same (λ r. getD (t .status) r 0) (status h) (λ r z. s .fits .status r (omega (arith, s .states))))
+pub totals-say : {limit : ℕ} {h : History} {g : Graph} {t : Tables} → Standing (readerGraph limit) h g t → tableTotals (t .status) ≡ totalsText (totalsBelow (readerGraph limit .n) (status h))
+totals-say {limit} {h} {t = t} s = ap totalsText (totals-same (readerGraph limit .n) (λ r. getD (t .status) r 0) (status h) (λ r z. s .fits .status r (omega (arith, s .states))))
 
 -- Lines without news that are not refused print nothing.
 quiet-text : (l : List Passed) → Quiet News l → passedText l ≡ []

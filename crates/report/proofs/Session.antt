@@ -21,7 +21,7 @@ use Rattle.record.proofs.Placing.{placed-take}
 use Rattle.reader.specs.declared.task.Task.{Task}
 use Rattle.reader.specs.declared.task.Task.the-variants.{Read, Write, End}
 use Rattle.reader.specs.Opening.{openRefusal}
-use Rattle.reader.specs.Reading.{recordLimit}
+use Rattle.reader.specs.Reading.{recordLimit, recordGraph}
 use Rattle.reader.specs.Advancing.{Passed, itemsOf, Applies, Follows}
 use Rattle.reader.specs.Underway.{Underway}
 use Rattle.reader.proofs.Lines.{opened-stands}
@@ -35,12 +35,12 @@ use Rattle.report.specs.Lister.{listerRoom, begins, least, placeBy, star
 use Rattle.report.proofs.Saying.{lines-say, lines-then, totals-say}
 
 -- what is left, said in another way
-abbrev left-as : {got left left′ : List ℕ} {s : Splitter} {g : Graph} {t : Tables} → Underway recordLimit got s left g t → left ≡ left′ → Underway recordLimit got s left′ g t
+abbrev left-as : {got left left′ : List ℕ} {s : Splitter} {g : Graph} {t : Tables} → Underway recordGraph got s left g t → left ≡ left′ → Underway recordGraph got s left′ g t
 left-as {s = s} u e = record { lines = u .lines; told = λ rest. u .told rest ∙ ap (λ (x : List ℕ). u .lines ++ run s (x ++ rest)) e; stands = u .stands }
 
 -- What the lines so far and those of a call print.
-says : {got left : List ℕ} {s : Splitter} {g g′ : Graph} {t t′ : Tables} {l : List Passed} (u : Underway recordLimit got s left g t) → Applies g t l g′ t′ → linesText recordLimit [] (u .lines ++ itemsOf l) ≡ linesText recordLimit [] (u .lines) ++ passedText l
-says {l = l} u a = lines-then recordLimit [] (u .lines) (itemsOf l) ∙ ap (λ (x : List ℕ). linesText recordLimit [] (u .lines) ++ x) (sym (lines-say (u .stands) a))
+says : {got left : List ℕ} {s : Splitter} {g g′ : Graph} {t t′ : Tables} {l : List Passed} (u : Underway recordGraph got s left g t) → Applies g t l g′ t′ → linesText recordGraph [] (u .lines ++ itemsOf l) ≡ linesText recordGraph [] (u .lines) ++ passedText l
+says {l = l} u a = lines-then recordGraph [] (u .lines) (itemsOf l) ∙ ap (λ (x : List ℕ). linesText recordGraph [] (u .lines) ++ x) (sym (lines-say (u .stands) a))
 
 -- The text written so far, and a text behind it.
 grown : (put output output′ lined text : List ℕ) (at r : ℕ) → put ++ take at output ≡ header ++ lined → WroteAt at text output output′ r → r ≤ length output → put ++ take r output′ ≡ header ++ (lined ++ text)
@@ -49,15 +49,15 @@ grown put output output′ lined text at r before w h =
     ap (λ (x : List ℕ). x ++ text) before ∙ append-assoc header lined text
 
 -- The whole listing: the lines, and behind them the totals of what they come to.
-whole : {got left : List ℕ} {s : Splitter} {g g′ : Graph} {t t′ : Tables} {l : List Passed} (u : Underway recordLimit got s left g t) → Applies g t l g′ t′ → (input : List ℕ) → items input ≡ u .lines ++ itemsOf l → header ++ (linesText recordLimit [] (u .lines) ++ (passedText l ++ tableTotals (t′ .status))) ≡ listing input
+whole : {got left : List ℕ} {s : Splitter} {g g′ : Graph} {t t′ : Tables} {l : List Passed} (u : Underway recordGraph got s left g t) → Applies g t l g′ t′ → (input : List ℕ) → items input ≡ u .lines ++ itemsOf l → header ++ (linesText recordGraph [] (u .lines) ++ (passedText l ++ tableTotals (t′ .status))) ≡ listing input
 unfolding printed
 whole {t′ = t′} {l = l} u a input e =
     let m = u .lines ++ itemsOf l in
     ap (λ (x : List ℕ). header ++ x)
-    (sym (append-assoc (linesText recordLimit [] (u .lines)) (passedText l) (tableTotals (t′ .status))) ∙
+    (sym (append-assoc (linesText recordGraph [] (u .lines)) (passedText l) (tableTotals (t′ .status))) ∙
     ap (λ (x : List ℕ). x ++ tableTotals (t′ .status)) (sym (says u a)) ∙
-    ap (λ (x : List ℕ). linesText recordLimit [] m ++ x) (totals-say (underway-stands u a)) ∙
-    ap (printed recordLimit []) (sym e))
+    ap (λ (x : List ℕ). linesText recordGraph [] m ++ x) (totals-say (underway-stands u a)) ∙
+    ap (printed recordGraph []) (sym e))
 
 drop-none : (n : ℕ) → drop {A = ℕ} n [] ≡ []
 drop-none n = let h : 0 ≤ n = omega arith in drop-of-length-le [] h
@@ -73,10 +73,10 @@ take-least n d = by (leb n (length d)) refl
 -- One call, on what is left of a piece: the bytes `got` have come, and what was written before the place ends with the lines so far.
 module _
     (got put piece output : List ℕ) (l : Lister) (t : Tables)
-    (u : Underway recordLimit got (l .reader .splitter) (drop (startBy (l .task) (l .next) (length piece)) piece) (l .reader .engine .graph) t)
-    (before : put ++ take (placeBy (l .task) (l .end)) output ≡ header ++ linesText recordLimit [] (u .lines)) where
-  more : {text output′ : List ℕ} {r : ℕ} → WroteAt (placeBy (l .task) (l .end)) text output output′ r → r ≤ length output → put ++ take r output′ ≡ header ++ (linesText recordLimit [] (u .lines) ++ text)
-  more {text} {output′} {r} w h = grown put output output′ (linesText recordLimit [] (u .lines)) text (placeBy (l .task) (l .end)) r before w h
+    (u : Underway recordGraph got (l .reader .splitter) (drop (startBy (l .task) (l .next) (length piece)) piece) (l .reader .engine .graph) t)
+    (before : put ++ take (placeBy (l .task) (l .end)) output ≡ header ++ linesText recordGraph [] (u .lines)) where
+  more : {text output′ : List ℕ} {r : ℕ} → WroteAt (placeBy (l .task) (l .end)) text output output′ r → r ≤ length output → put ++ take r output′ ≡ header ++ (linesText recordGraph [] (u .lines) ++ text)
+  more {text} {output′} {r} w h = grown put output output′ (linesText recordGraph [] (u .lines)) text (placeBy (l .task) (l .end)) r before w h
 
   ongoing : {output′ left : List ℕ} {l′ : Lister} {t′ : Tables} (f : Follows (l .reader .splitter) (drop (startBy (l .task) (l .next) (length piece)) piece) (l .reader .engine .graph) t (l′ .reader .splitter) left (l′ .reader .engine .graph) t′) → left ≡ leftBy (l′ .task) (l′ .next) piece → WroteAt (placeBy (l .task) (l .end)) (passedText (f .passed)) output output′ (l′ .end) → l′ .end ≤ length output → Ongoing got put l′ piece output′ t′
   ongoing f e w h = record { under = left-as (underway-follows u f) e; text = more w h ∙ ap (λ (x : List ℕ). header ++ x) (sym (says u (f .applied))) }

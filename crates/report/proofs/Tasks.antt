@@ -8,7 +8,7 @@ use native.Mathlib.Omega.{arith}
 use lib.Dec.{leb}
 use lib.ListN.{length, drop, drop-of-length-le}
 use borrow.Author.Tests.{leb-true}
-use Rattle.tables.specs.Tables.{Tables}
+use Rattle.tables.specs.Tables.{Tables, nodesOf}
 use Rattle.tables.specs.Keeping.{KeptTables}
 use Rattle.tables.proofs.Keeping.{tables-same}
 use Rattle.record.specs.Text.{WroteAt}
@@ -121,8 +121,8 @@ lists-by l (b ∷ piece) output t d e t′ {at = at} {index = index} {l′ = l�
     (subst (λ (x : List ℕ). AfterLines d (length x) (length (b ∷ piece)) (t′ .status) e l′ output′) q f)
 
 -- What a call keeps of the tables, and where the text ends.
-pub lists-kept : {l : Lister} {piece output : List ℕ} {t : Tables} {l′ : Lister} {output′ : List ℕ} {t′ : Tables} → Lists l piece output t l′ output′ t′ → KeptTables (l .reader .engine .graph .n) (l .reader .engine .graph .limit) t t′
-lists-kept {l} {t = t} (full h q z w) = rw w (tables-same (l .reader .engine .graph .n) (l .reader .engine .graph .limit) t)
+pub lists-kept : {l : Lister} {piece output : List ℕ} {t : Tables} {l′ : Lister} {output′ : List ℕ} {t′ : Tables} → Lists l piece output t l′ output′ t′ → KeptTables (l .reader .engine .graph .n) (nodesOf (l .reader .engine .graph)) (l .reader .engine .graph .limit) t t′
+lists-kept {l} {t = t} (full h q z w) = rw w (tables-same (l .reader .engine .graph .n) (nodesOf (l .reader .engine .graph)) (l .reader .engine .graph .limit) t)
 lists-kept (pauses f k s w h) = f .kept
 lists-kept (goes-on f o k g s w h) = f .kept
 lists-kept (stopped f k s w h) = f .kept

@@ -10,8 +10,8 @@ use lib.ListN.{length, drop}
 use Rattle.tables.specs.Tables.{Tables}
 use Rattle.record.specs.Text.{WroteAt}
 use Rattle.record.specs.Splitting.{started, lastNewline}
-use Rattle.reader.specs.Opening.{readerGraph, openRefusal, freshened}
-use Rattle.reader.specs.Reading.{recordLimit}
+use Rattle.reader.specs.Opening.{openRefusal, freshened}
+use Rattle.reader.specs.Reading.{recordLimit, recordGraph}
 use Rattle.reader.specs.Advancing.{Follows}
 use Rattle.report.specs.declared.lines.LinesEnd.{LinesEnd}
 use Rattle.report.specs.declared.lister.Lister.{Lister}
@@ -37,7 +37,7 @@ abbrev pub idle : Lister
 idle = record { reader = record { splitter = started; engine = record { graph = record { n = 0; limit = 0; steps = 0 } } }; next = 0; end = 0; task = End }
 
 abbrev pub listerBy : Bool → Lister
-listerBy true = record { reader = record { splitter = started; engine = record { graph = readerGraph recordLimit } }; next = 0; end = length header; task = Read }
+listerBy true = record { reader = record { splitter = started; engine = record { graph = recordGraph } }; next = 0; end = length header; task = Read }
 listerBy false = idle
 
 -- The output and the tables after it: as they were where nothing begins.

@@ -9,8 +9,10 @@ use Rattle.record.specs.Text.{WroteAt}
 use Rattle.record.specs.declared.splitter.Splitter.{Splitter}
 use Rattle.reader.specs.declared.driver.LineAnswer.{LineAnswer}
 use Rattle.reader.specs.declared.driver.LineAnswer.the-variants.{Nothing, Accepted, Refused}
+use Rattle.reader.specs.Opening.{readerStates}
 use Rattle.reader.specs.Advancing.{Passed, Follows}
-use Rattle.report.specs.Texts.{refusedText, newsText, totalsOf, totalsText}
+use Rattle.report.specs.declared.totals.Totals.{Totals}
+use Rattle.report.specs.Texts.{refusedText, newsText, totalsBelow, totalsText}
 
 -- The room that one line's text may take: 17 bytes for each of 2,048 states.
 abbrev pub lineRoom : ℕ
@@ -26,6 +28,10 @@ answerText (Refused line k) news status = refusedText line k
 unfoldable pub passedText : List Passed → List ℕ
 passedText [] = []
 passedText (p ∷ l) = answerText (p .answer) (p .after .news) (p .after .status) ++ passedText l
+
+-- The counts over all states of a reader's tables.
+abbrev pub totalsOf : (ℕ → ℕ) → Totals
+totalsOf = totalsBelow readerStates
 
 -- The totals, by the status table.
 abbrev pub tableTotals : List ℕ → List ℕ

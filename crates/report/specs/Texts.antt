@@ -8,7 +8,6 @@ use lib.ListN.{length}
 use Rattle.gid.specs.Statuses.{statusOpen, statusUnknown, statusLive, statusDead}
 use Rattle.gid.specs.News.{below}
 use Rattle.record.specs.Text.{decimal}
-use Rattle.reader.specs.Opening.{readerStates}
 use Rattle.report.specs.declared.totals.Totals.{Totals}
 
 -- "It prints a header": `line verdict number`.
@@ -72,10 +71,6 @@ totalsBelow n status =
       live = having n status statusLive;
       dead = having n status statusDead;
     }
-
--- Over all states of a reader's tables.
-abbrev pub totalsOf : (ℕ → ℕ) → Totals
-totalsOf = totalsBelow readerStates
 
 -- "then four counts": open, unknown, live, dead.
 unfoldable pub totalsText : Totals → List ℕ

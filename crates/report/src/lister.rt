@@ -3,7 +3,9 @@ ghost use mathlib.Core.Path.{_≡_};
 ghost use mathlib.Core.Bool.{true, false};
 ghost use Prim.Native.Nat.{_≤_, _<_, _+_};
 ghost use lib.ListN.{length};
-ghost use Rattle.tables.specs.Tables.{tablesOf};
+ghost use Rattle.tables.specs.Tables.{Tables, tablesOf};
+ghost use Rattle.reader.specs.Opening.{Opens};
+ghost use Rattle.reader.specs.Reading.{recordLimit};
 ghost use Rattle.report.specs.Lister.{listerRoom, idle, placeBy, startBy, least, BeginsListing, Lists, PutsTotals, AfterLines};
 use crate::lines::LINE_ROOM;
 use crate::lines::LinesEnd;
@@ -66,6 +68,14 @@ pub fn begin(
         in_next,
         out_next,
     );
+    begun(opened, output)
+}
+
+// The lister of tables that were opened, or were too short.
+fn begun(opened: Opened, output: &mut [u8]) -> Lister
+    requires { ⌜ listerRoom ≤ length (now output) ⌝ }
+    ensures { λ r. ⌜ ((t t′ : Tables) → Opens recordLimit t t′ opened → BeginsListing (now (output .entry)) t r (now (output .exit)) t′) ⌝ }
+{
     match opened {
         Opened::Refused(_) => idle(),
         Opened::Ready(engine) => {

@@ -2,7 +2,8 @@
 ghost use Prim.Native.Nat.{_≤_, _<_, _+_, _*_};
 ghost use lib.ListN.{length, getD};
 ghost use Rattle.record.specs.Text.{WroteAt};
-ghost use Rattle.report.specs.Texts.{totalsRoom, header, ending, row, refusedText, verdictWord, newsText, totalsOf, totalsText};
+ghost use Rattle.report.specs.Texts.{totalsRoom, header, ending, row, refusedText, verdictWord, newsText, totalsText};
+ghost use Rattle.report.specs.Printing.{totalsOf};
 use crate::totals::count;
 use record::put_bytes_at;
 use record::put_number_at;

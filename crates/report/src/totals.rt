@@ -1,7 +1,7 @@
 // The four counts at the end of a listing.
 ghost use mathlib.Core.Path.{_≡_};
 ghost use lib.ListN.{getD};
-ghost use Rattle.report.specs.Texts.{totalsOf};
+ghost use Rattle.report.specs.Printing.{totalsOf};
 use tables::DEAD;
 use tables::LIVE;
 use tables::MAX_STATES;

@@ -5,6 +5,7 @@ pub mod Walking
 pub mod Offering
 pub mod Spreading
 pub mod Releasing
-pub mod Rescuing
 pub mod Escaping
 pub mod Settling
+pub mod Living
+pub mod Dying

@@ -1,4 +1,4 @@
--- Settling, state by state: what holds when the states below s have been seen, and that it is all that was asked when the greatest has been.
+-- Settling, node by node: what holds when the nodes below s have been seen, and that it is all that was asked when the greatest has been.
 -- Assumes nothing.
 use mathlib.Core.Path.{_≡_, refl, sym, _∙_}
 use mathlib.Core.Logic.{_⊎_, inl, inr, ⊎-elim}
@@ -15,14 +15,23 @@ use borrow.Author.Tests.{lt-ltb, le-ltb, ltb-true, ltb-false, le-leb, lt-leb}
 use Rattle.gid.specs.News.{below}
 use Rattle.gid.specs.Successors.{noSuccessor}
 use Rattle.gid.proofs.News.{below-none}
-use Rattle.tables.specs.Work.{marked}
-use Rattle.tables.specs.Keeping.{Kept}
-use Rattle.search.specs.Marking.{unmark}
-use Rattle.search.specs.Settling.{settledFrom, Settled, SettledOne, passed, settled}
+use Rattle.tables.specs.Tables.{visitedLength}
+use Rattle.tables.specs.Visits.{marked, unmark}
+use Rattle.tables.specs.Keeping.{KeptVisited}
 use Rattle.tables.proofs.Keeping.{kept-none, kept-trans}
-use Rattle.search.proofs.Marking.{marked-unmark, marked-unmark-other, kept-unmark}
+use Rattle.tables.proofs.Marking.{has-mark, marked-unmark, marked-unmark-other, kept-unmark}
+use Rattle.search.specs.Settling.{toldAll, settledFrom, Settled, SettledOne, passed, settled}
 
--- Of the states that are settled, those below s.
+-- The news of two lists of nodes, one behind the other; and of nodes that each name themselves.
+told-append : (l m : List ℕ) → toldAll (l ++ m) ≡ toldAll l ++ toldAll m
+told-append [] m = refl
+told-append (x ∷ l) m = rw (told-append l m)
+
+pub told-same : (l : List ℕ) → toldAll l ≡ l
+told-same [] = refl
+told-same (x ∷ l) = rw (told-same l)
+
+-- Of the nodes that are settled, those below s.
 abbrev pub settledTo : ℕ → ℕ → List ℕ → ℕ → ℕ → Bool
 settledTo low high vi s r = ltb r s && settledFrom low high vi r
 
@@ -86,12 +95,12 @@ pub record Settling (low high verdict : ℕ) (st su ne vi st′ su′ ne′ vi�
   pub status : (r : ℕ) → getD st′ r 0 ≡ cond (settledTo low high vi s r) verdict (getD st r 0)
   pub successor : (r : ℕ) → getD su′ r 0 ≡ cond (settledTo low high vi s r) noSuccessor (getD su r 0)
   pub visited : (r : ℕ) → marked vi′ r ≡ (marked vi r && not (settledTo low high vi s r))
-  pub front : take k ne′ ≡ below s (settledFrom low high vi)
+  pub front : take k ne′ ≡ toldAll (below s (settledFrom low high vi))
   pub behind : (i : ℕ) → k ≤ i → getD ne′ i 0 ≡ getD ne i 0
   pub statuses : length st′ ≡ length st
   pub successors : length su′ ≡ length su
   pub names : length ne′ ≡ length ne
-  pub visits : Kept (suc high) vi vi′
+  pub visits : KeptVisited (suc high) vi vi′
 
 module _ {low high verdict : ℕ} {st su ne vi : List ℕ} where
   pub settling-first : Settling low high verdict st su ne vi st su ne vi low 0
@@ -101,21 +110,21 @@ module _ {low high verdict : ℕ} {st su ne vi : List ℕ} where
     status = λ r. rw (to-first low high vi r);
     successor = λ r. rw (to-first low high vi r);
     visited = λ r. rw (to-first low high vi r) (sym (and-true (marked vi r)));
-    front = sym (below-none low (settledFrom low high vi) (settled-under low high vi));
+    front = rw (below-none low (settledFrom low high vi) (settled-under low high vi));
     behind = λ i h. refl;
     statuses = refl;
     successors = refl;
     names = refl;
-    visits = kept-none (suc high) vi;
+    visits = kept-none (visitedLength (suc high)) vi;
   }
 
   module _ {st′ su′ ne′ vi′ : List ℕ} {s k : ℕ} (p : Settling low high verdict st su ne vi st′ su′ ne′ vi′ s k) (h : s ≤ high) where
     settled-here : settledFrom low high vi s ≡ marked vi′ s
     settled-here = settled-inside low high vi s (let f = p .from in omega arith) h ∙ sym (p .visited s ∙ rw (le-ltb s s (omega arith)) (and-true (marked vi s)))
 
-    front-next : (b : Bool) → settledFrom low high vi s ≡ b → below (s + 1) (settledFrom low high vi) ≡ take k ne′ ++ cond b (s ∷ []) []
+    front-next : (b : Bool) → settledFrom low high vi s ≡ b → toldAll (below (s + 1) (settledFrom low high vi)) ≡ take k ne′ ++ toldAll (cond b (s ∷ []) [])
     unfolding below
-    front-next b e = rw (add-one s, p .front, e)
+    front-next b e = rw (add-one s, told-append (below s (settledFrom low high vi)) (cond (settledFrom low high vi s) (s ∷ []) []), p .front, e)
 
     next-passed : marked vi′ s ≡ false → Settling low high verdict st su ne vi st′ su′ ne′ vi′ (s + 1) k
     next-passed m = record {
@@ -132,7 +141,7 @@ module _ {low high verdict : ℕ} {st su ne vi : List ℕ} where
       visits = p .visits;
     }
 
-    next-settled : high < length st → high < length su → high < length ne → high < length vi → marked vi′ s ≡ true → Settling low high verdict st su ne vi (set st′ s verdict) (set su′ s noSuccessor) (set ne′ k s) (unmark vi′ s) (s + 1) (k + 1)
+    next-settled : high < length st → high < length su → high < length ne → visitedLength (high + 1) ≤ length vi → marked vi′ s ≡ true → Settling low high verdict st su ne vi (set st′ s verdict) (set su′ s noSuccessor) (set ne′ k s) (unmark vi′ s) (s + 1) (k + 1)
     next-settled a b c d m = record {
       from = let f = p .from in omega arith;
       upTo = inl (omega arith);
@@ -148,12 +157,12 @@ module _ {low high verdict : ℕ} {st su ne vi : List ℕ} where
     }
       where
         clears : (r : ℕ) → Dec (r ≡ s) → marked (unmark vi′ s) r ≡ (marked vi r && not (settledTo low high vi (s + 1) r))
-        clears r (yes e) = rw (e, to-here low high vi s, settled-here, m, marked-unmark vi′ s (let z = p .visits .size in omega arith)) (sym (and-false (marked vi s)))
+        clears r (yes e) = rw (e, to-here low high vi s, settled-here, m, marked-unmark vi′ s (has-mark (high + 1) vi′ s (omega arith) (let z = p .visits .size in omega arith))) (sym (and-false (marked vi s)))
         clears r (no n) = marked-unmark-other vi′ s r n ∙ rw (to-other low high vi s r n) (p .visited r)
 
-  pub settling-next : {st′ su′ ne′ vi′ st″ su″ ne″ vi″ : List ℕ} {s k k′ : ℕ} → Settling low high verdict st su ne vi st′ su′ ne′ vi′ s k → s ≤ high → high < length st → high < length su → high < length ne → high < length vi → SettledOne s verdict k st′ su′ ne′ vi′ st″ su″ ne″ vi″ k′ → Settling low high verdict st su ne vi st″ su″ ne″ vi″ (s + 1) k′
+  pub settling-next : {st′ su′ ne′ vi′ st″ su″ ne″ vi″ : List ℕ} {s k k′ : ℕ} → Settling low high verdict st su ne vi st′ su′ ne′ vi′ s k → s ≤ high → high < length st → high < length su → high < length ne → visitedLength (high + 1) ≤ length vi → SettledOne s verdict k st′ su′ ne′ vi′ st″ su″ ne″ vi″ k′ → Settling low high verdict st su ne vi st″ su″ ne″ vi″ (s + 1) k′
   settling-next p h a b c d (passed m e₁ e₂ e₃ e₄ e₅) = rw (e₁, e₂, e₃, e₄, e₅) (next-passed p h m)
-  settling-next p h a b c d (settled m e₁ e₂ e₃ e₄ e₅) = rw (e₁, e₂, e₃, e₄, e₅) (next-settled p h a b c d m)
+  settling-next p h a b c d (settled m e₁ e₂ t e₃) = rw (e₁, e₂, t .names, t .number, e₃) (next-settled p h a b c d m)
 
   pub settling-last : {st′ su′ ne′ vi′ : List ℕ} {s k : ℕ} → Settling low high verdict st su ne vi st′ su′ ne′ vi′ s k → high < s → Settled low high verdict st su ne vi st′ su′ ne′ vi′ k
   settling-last {s} {k} p h = record {
@@ -169,10 +178,12 @@ module _ {low high verdict : ℕ} {st su ne vi : List ℕ} where
     visits = p .visits;
   }
     where
-      ends : s ≤ suc high → below s (settledFrom low high vi) ≡ below (suc high) (settledFrom low high vi)
+      ends : s ≤ suc high → toldAll (below s (settledFrom low high vi)) ≡ toldAll (below (suc high) (settledFrom low high vi))
       ends u = let e : s ≡ suc high = omega arith in rw e
 
-      none : s ≡ low → below s (settledFrom low high vi) ≡ below (suc high) (settledFrom low high vi)
+      none : s ≡ low → toldAll (below s (settledFrom low high vi)) ≡ toldAll (below (suc high) (settledFrom low high vi))
       none e =
-          below-none s (settledFrom low high vi) (λ r l. settled-under low high vi r (omega arith))
-          ∙ sym (below-none (suc high) (settledFrom low high vi) (λ r l. settled-under low high vi r (omega arith)))
+          rw (
+            below-none s (settledFrom low high vi) (λ r l. settled-under low high vi r (omega arith)),
+            below-none (suc high) (settledFrom low high vi) (λ r l. settled-under low high vi r (omega arith)),
+          )

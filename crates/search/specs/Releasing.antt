@@ -1,4 +1,4 @@
--- Releasing visited states: which of them keep a way to a state that is not visited. Each released state is unmarked, has that way as its successor, and stands in the front of the queue, behind those that were released before it.
+-- Releasing visited nodes: which of them keep a way to a node that is not visited. Each released node is unmarked, has that way as its successor, and stands in the front of the queue, behind those that were released before it.
 -- Assumes nothing.
 use mathlib.Core.Path.{_≡_}
 use mathlib.Core.Logic.{_⊎_}
@@ -6,69 +6,87 @@ use mathlib.Core.Bool.{Bool, true, false, not, _&&_, _||_}
 use mathlib.Core.List.{List}
 use Prim.Native.Nat.{ℕ, _+_, _≤_, _<_}
 use lib.Dec.{eqb, ltb}
-use lib.ListN.{getD}
+use lib.ListN.{getD, set}
 use Rattle.gid.specs.Statuses.{statusOpen, statusUnknown}
-use Rattle.tables.specs.Work.{marked}
-use Rattle.adjacency.specs.Walks.{Linked}
-use Rattle.tables.specs.Keeping.{Kept}
+use Rattle.gid.specs.Systems.{Arcs}
+use Rattle.tables.specs.Visits.{marked, unmark}
+use Rattle.tables.specs.Keeping.{Kept, KeptVisited}
 use Rattle.search.specs.Counting.{count}
-use Rattle.search.specs.Spreading.{Arcs}
+use Rattle.search.specs.Spreading.{Before}
 
--- A state of the tables that is open or unknown.
+-- A node that is open or unknown.
 abbrev pub hopeful : ℕ → List ℕ → ℕ → Bool
 hopeful n status w = ltb w n && (eqb (getD status w 0) statusOpen || eqb (getD status w 0) statusUnknown)
 
--- The step p of `out` leads to a state that is open or unknown and not visited.
-abbrev pub leadsOut : Arcs → List ℕ → List ℕ → ℕ → Bool
-leadsOut out status visited p = hopeful (out .n) status (getD (out .ends) p 0) && not (marked visited (getD (out .ends) p 0))
+-- One that is not visited besides.
+abbrev pub outside : ℕ → List ℕ → List ℕ → ℕ → Bool
+outside n status visited w = hopeful n status w && not (marked visited w)
 
--- One of the first j of the queue is w.
-abbrev pub Before : List ℕ → ℕ → ℕ → Type 0
-Before queue j w = (i : ℕ) × (i < j) × (getD queue i 0 ≡ w)
+-- The way of the node s, by the arc p, behind j released ones: out of it to a node that is open or unknown and was not visited, or was released before;
+abbrev pub WayOut : ℕ → Arcs → List ℕ → List ℕ → List ℕ → ℕ → ℕ → ℕ → Type 0
+WayOut n Arc status visited queue j s p = (t : ℕ) × Arc s p t × (hopeful n status t ≡ true) × ((marked visited t ≡ false) ⊎ Before queue j t)
 
--- The way of the state s, by the step p: out of it to a state that is open or unknown and was not visited, or was released before; or, seen from a state released before, into that one from s. `out` chains the steps by their source, `into` by their target.
-pub data Way (out into : Arcs) (status visited queue : List ℕ) (j s p : ℕ) : Type 0 where
-  beyond : Linked (out .head) (out .next) (out .m) s p → hopeful (out .n) status (getD (out .ends) p 0) ≡ true → marked visited (getD (out .ends) p 0) ≡ false → Way out into status visited queue j s p
-  onto : Linked (out .head) (out .next) (out .m) s p → hopeful (out .n) status (getD (out .ends) p 0) ≡ true → Before queue j (getD (out .ends) p 0) → Way out into status visited queue j s p
-  towards : {w : ℕ} → Before queue j w → Linked (into .head) (into .next) (into .m) w p → getD (into .ends) p 0 ≡ s → Way out into status visited queue j s p
+-- or to one released before, seen from there.
+abbrev pub WayTo : Arcs → List ℕ → ℕ → ℕ → ℕ → Type 0
+WayTo Arc queue j s p = (t : ℕ) × Arc s p t × Before queue j t
 
--- The release so far, since the marks were `visited` and the successors `successor`: k states are released.
-pub record Released (out into : Arcs) (status visited successor visited′ successor′ queue′ : List ℕ) (k : ℕ) : Type 0 where
+-- Nothing changed: k nodes are released as before.
+pub record Unchanged (visited successor queue visited′ successor′ queue′ : List ℕ) (k r : ℕ) : Type 0 where
+  pub visits : visited′ ≡ visited
+  pub successors : successor′ ≡ successor
+  pub queues : queue′ ≡ queue
+  pub number : r ≡ k
+
+-- The node x was released behind k others, with the arc p as its successor.
+pub record Taken (x p : ℕ) (visited successor queue visited′ successor′ queue′ : List ℕ) (k r : ℕ) : Type 0 where
+  pub visits : visited′ ≡ unmark visited x
+  pub successors : successor′ ≡ set successor x p
+  pub queues : queue′ ≡ set queue k x
+  pub number : r ≡ k + 1
+
+-- A part of a release: behind `len` released nodes others are, k in all, each by a way.
+pub record Releases (n : ℕ) (Way : List ℕ → ℕ → ℕ → ℕ → Type 0) (visited successor queue visited′ successor′ queue′ : List ℕ) (len k : ℕ) : Type 0 where
+  pub more : len ≤ k
+  pub stable : (j : ℕ) → j < len → getD queue′ j 0 ≡ getD queue j 0
   pub shrinks : (s : ℕ) → marked visited′ s ≡ true → marked visited s ≡ true
-  pub front : (j : ℕ) → j < k → (getD queue′ j 0 < out .n) × (marked visited (getD queue′ j 0) ≡ true) × (marked visited′ (getD queue′ j 0) ≡ false)
+  pub front : (j : ℕ) → len ≤ j → j < k → (getD queue′ j 0 < n) × (marked visited (getD queue′ j 0) ≡ true) × (marked visited′ (getD queue′ j 0) ≡ false)
   pub listed : (s : ℕ) → marked visited s ≡ true → marked visited′ s ≡ false → Before queue′ k s
-  pub ways : (j : ℕ) → j < k → Way out into status visited queue′ j (getD queue′ j 0) (getD successor′ (getD queue′ j 0) 0)
+  pub ways : (j : ℕ) → len ≤ j → j < k → Way queue′ j (getD queue′ j 0) (getD successor′ (getD queue′ j 0) 0)
   pub others : (s : ℕ) → (marked visited s ≡ false) ⊎ (marked visited′ s ≡ true) → getD successor′ s 0 ≡ getD successor s 0
-  pub room : k + count (out .n) (marked visited′) ≤ out .n
-  pub visits : Kept (out .n) visited visited′
-  pub successors : Kept (out .n) successor successor′
+  pub room : k + count n (marked visited′) ≤ n
+  pub visits : KeptVisited n visited visited′
+  pub successors : Kept n successor successor′
+  pub queues : Kept n queue queue′
 
--- After the escapes: of the first `len` queued states, one that is still visited has no step out of the visited ones.
-abbrev pub NoEscape : Arcs → List ℕ → List ℕ → List ℕ → List ℕ → ℕ → Type 0
-NoEscape out status visited visited′ queue len =
-    (j : ℕ) → j < len → marked visited′ (getD queue j 0) ≡ true →
-    (p : ℕ) → Linked (out .head) (out .next) (out .m) (getD queue j 0) p → leadsOut out status visited p ≡ false
-
--- After the rescue: no state that is still visited is a source of a released one.
-abbrev pub NoRescue : Arcs → List ℕ → List ℕ → ℕ → Type 0
-NoRescue into visited′ queue′ k =
-    (j : ℕ) → j < k → (p : ℕ) → Linked (into .head) (into .next) (into .m) (getD queue′ j 0) p → getD (into .ends) p 0 < into .n → marked visited′ (getD (into .ends) p 0) ≡ false
-
--- The first k of the queue are states.
+-- The first k of the queue are nodes.
 abbrev pub QueuedBelow : ℕ → List ℕ → ℕ → Type 0
 QueuedBelow n queue k = (j : ℕ) → j < k → getD queue j 0 < n
 
--- What the escapes leave.
-pub record Escapes (out : Arcs) (status visited successor queue visited′ successor′ queue′ : List ℕ) (len k : ℕ) : Type 0 where
-  pub released : (into : Arcs) → Released out into status visited successor visited′ successor′ queue′ k
-  pub noEscape : NoEscape out status visited visited′ queue len
-  pub queues : Kept (out .n) queue queue′
+-- A search for an arc from x that leads out: 1 + its number, or 0 where none does.
+pub data FindsOut (n : ℕ) (Arc : Arcs) (status visited : List ℕ) (x r : ℕ) : Type 0 where
+  none : r ≡ 0 → ((p t : ℕ) → Arc x p t → outside n status visited t ≡ false) → FindsOut n Arc status visited x r
+  found : (p t : ℕ) → r ≡ p + 1 → Arc x p t → outside n status visited t ≡ true → FindsOut n Arc status visited x r
 
--- What a rescue leaves, after any release.
-pub record Rescues (into : Arcs) (visited successor queue visited′ successor′ queue′ : List ℕ) (len k : ℕ) : Type 0 where
-  pub released : (out : Arcs) (status visited₀ successor₀ : List ℕ) → out .n ≡ into .n → Released out into status visited₀ successor₀ visited successor queue len → Released out into status visited₀ successor₀ visited′ successor′ queue′ k
-  pub noRescue : NoRescue into visited′ queue′ k
-  pub shrinks : (s : ℕ) → marked visited s ≡ false → marked visited′ s ≡ false
-  pub queues : Kept (into .n) queue queue′
-  pub visits : Kept (into .n) visited visited′
-  pub successors : Kept (into .n) successor successor′
+-- A queued node x is released by an arc that leads out, unless it is not visited or has none.
+pub data Tried (n : ℕ) (Arc : Arcs) (status : List ℕ) (x : ℕ) (visited successor queue visited′ successor′ queue′ : List ℕ) (k r : ℕ) : Type 0 where
+  stays : (marked visited x ≡ true → (p t : ℕ) → Arc x p t → outside n status visited t ≡ false) → Unchanged visited successor queue visited′ successor′ queue′ k r → Tried n Arc status x visited successor queue visited′ successor′ queue′ k r
+  leaves : (p t : ℕ) → marked visited x ≡ true → Arc x p t → outside n status visited t ≡ true → Taken x p visited successor queue visited′ successor′ queue′ k r → Tried n Arc status x visited successor queue visited′ successor′ queue′ k r
+
+-- The source y of the arc p into a released node is released, unless it is no node or not visited.
+pub data Pulled (n y p : ℕ) (visited successor queue visited′ successor′ queue′ : List ℕ) (k r : ℕ) : Type 0 where
+  passed : (y < n → marked visited y ≡ false) → Unchanged visited successor queue visited′ successor′ queue′ k r → Pulled n y p visited successor queue visited′ successor′ queue′ k r
+  pulled : y < n → marked visited y ≡ true → Taken y p visited successor queue visited′ successor′ queue′ k r → Pulled n y p visited successor queue visited′ successor′ queue′ k r
+
+-- What the escapes leave: of the first `len` queued nodes, one that is still visited has no arc out of the visited ones.
+pub record Escapes (n : ℕ) (Arc : Arcs) (status visited successor queue visited′ successor′ queue′ : List ℕ) (len k : ℕ) : Type 0 where
+  pub releases : Releases n (WayOut n Arc status visited) visited successor queue visited′ successor′ queue′ 0 k
+  pub noEscape : (j : ℕ) → j < len → marked visited′ (getD queue j 0) ≡ true → (p t : ℕ) → Arc (getD queue j 0) p t → outside n status visited t ≡ false
+
+-- No visited node is the source of an arc into x.
+abbrev pub NoSource : ℕ → Arcs → List ℕ → ℕ → Type 0
+NoSource n Arc visited x = (s p : ℕ) → Arc s p x → s < n → marked visited s ≡ false
+
+-- What a rescue leaves: no node that is still visited is a source of a released one.
+pub record Rescues (n : ℕ) (Arc : Arcs) (visited successor queue visited′ successor′ queue′ : List ℕ) (len k : ℕ) : Type 0 where
+  pub releases : Releases n (WayTo Arc) visited successor queue visited′ successor′ queue′ len k
+  pub noRescue : (j : ℕ) → j < k → NoSource n Arc visited′ (getD queue′ j 0)

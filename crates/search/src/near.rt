@@ -4,9 +4,8 @@ ghost use mathlib.Core.Path.{_≡_};
 ghost use mathlib.Core.Bool.{true};
 ghost use Prim.Native.Nat.{_≤_, _<_};
 ghost use lib.ListN.{length, getD};
-ghost use Rattle.search.specs.Spreading.{arcs, Walkable};
-ghost use Rattle.search.specs.Escaping.{Escape, Near};
-ghost use Rattle.search.specs.Rescuing.{byTarget, Followed};
+ghost use Rattle.search.specs.Spreading.{chains, outOf, Walkable};
+ghost use Rattle.search.specs.Escaping.{toward, Escape, Near, Followed};
 use adjacency::after;
 use tables::OPEN;
 use tables::UNKNOWN;
@@ -28,9 +27,9 @@ pub fn near_escape(
     successor: &[u16],
 ) -> usize
     requires { ⌜ u < n ⌝ }
-    requires { ⌜ Walkable (arcs n steps (now to) (now «out_head») (now «out_next»)) ⌝ }
+    requires { ⌜ Walkable (chains n steps (now to) (now «out_head») (now «out_next»)) ⌝ }
     requires { ⌜ (n ≤ length (now status)) × (n ≤ length (now successor)) ⌝ }
-    ensures { λ r. ⌜ Escape (arcs n steps (now (to .entry)) (now («out_head» .entry)) (now («out_next» .entry)))
+    ensures { λ r. ⌜ Escape n (outOf (chains n steps (now (to .entry)) (now («out_head» .entry)) (now («out_next» .entry)))) (toward steps (now (to .entry)))
         (now (status .entry)) (now (successor .entry)) u r ⌝ }
 {
     let p = escape_within(0, n, steps, u, to, out_head, out_next, status, successor);
@@ -53,9 +52,9 @@ fn escape_within(
     successor: &[u16],
 ) -> usize
     requires { ⌜ (u < n) × (most < 65536) ⌝ }
-    requires { ⌜ Walkable (arcs n steps (now to) (now «out_head») (now «out_next»)) ⌝ }
+    requires { ⌜ Walkable (chains n steps (now to) (now «out_head») (now «out_next»)) ⌝ }
     requires { ⌜ (n ≤ length (now status)) × (n ≤ length (now successor)) ⌝ }
-    ensures { λ r. ⌜ Escape (arcs n steps (now (to .entry)) (now («out_head» .entry)) (now («out_next» .entry)))
+    ensures { λ r. ⌜ Escape n (outOf (chains n steps (now (to .entry)) (now («out_head» .entry)) (now («out_next» .entry)))) (toward steps (now (to .entry)))
         (now (status .entry)) (now (successor .entry)) u r ⌝ }
 {
     let mut p = first(out_head, u, steps);
@@ -79,7 +78,7 @@ fn meets_open(
     successor: &[u16],
 ) -> bool
     requires { ⌜ (most < 65536) × (steps ≤ length (now to)) × (n ≤ length (now status)) × (n ≤ length (now successor)) ⌝ }
-    ensures { λ r. ⌜ (r ≡ true → Near (byTarget n steps (now (to .entry))) (now (status .entry)) (now (successor .entry)) start) ⌝ }
+    ensures { λ r. ⌜ (r ≡ true → Near n (toward steps (now (to .entry))) (now (status .entry)) (now (successor .entry)) start) ⌝ }
 {
     let mut s = start;
     let mut left = most + 1;
@@ -99,7 +98,7 @@ fn meets_open(
 // The state that the successor of s leads to, or n (or more) where s is not unknown or its successor is no listed step.
 fn follow(n: usize, steps: usize, s: usize, to: &[u16], status: &[u8], successor: &[u16]) -> usize
     requires { ⌜ (s < n) × (steps ≤ length (now to)) × (n ≤ length (now status)) × (n ≤ length (now successor)) ⌝ }
-    ensures { λ r. ⌜ Followed (byTarget n steps (now (to .entry))) (now (status .entry)) (now (successor .entry)) s r ⌝ }
+    ensures { λ r. ⌜ Followed n (toward steps (now (to .entry))) (now (status .entry)) (now (successor .entry)) s r ⌝ }
 {
     if status[s] != UNKNOWN {
         return n;

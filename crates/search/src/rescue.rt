@@ -1,22 +1,21 @@
-// Which visited states keep a way to an open state. Queue length + number of visited states below n never grows, so the queue has room.
+// Which visited nodes keep a way to an open one. Queue length + number of visited nodes below n never grows, so the queue has room.
 ghost use mathlib.Core.Path.{_≡_};
-ghost use mathlib.Core.Bool.{not, _&&_};
 ghost use Prim.Native.Nat.{_+_, _≤_, _<_};
 ghost use lib.ListN.{length, getD};
-ghost use Rattle.tables.specs.Work.{marked};
+ghost use Rattle.tables.specs.Tables.{visitedLength};
+ghost use Rattle.tables.specs.Visits.{HasMark, marked};
 ghost use Rattle.search.specs.Counting.{count};
-ghost use Rattle.search.specs.Spreading.{arcs, Walkable};
-ghost use Rattle.search.specs.Releasing.{QueuedBelow, Before, Escapes, Rescues, hopeful};
-ghost use Rattle.search.specs.Rescuing.{Taken, WayOut, Tried, Pulled, Rescuing, NoSource};
-use super::visits::clear_visited;
-use super::visits::is_visited;
+ghost use Rattle.search.specs.Spreading.{chains, into, outOf, Walkable, Before};
+ghost use Rattle.search.specs.Releasing.{outside, WayTo, Taken, Releases, QueuedBelow, FindsOut, Tried, Pulled, Escapes, NoSource, Rescues};
 use adjacency::after;
 use adjacency::first;
 use tables::OPEN;
 use tables::UNKNOWN;
+use tables::clear_visited;
+use tables::is_visited;
 use tables::wide;
 
-// Of the first len queued states, releases those with a step out of the visited ones, and moves them to the queue's front. Answers how many.
+// Of the first len queued nodes, releases those with a step out of the visited ones, and moves them to the queue's front. Answers how many.
 pub fn escapes(
     n: usize,
     steps: usize,
@@ -30,9 +29,9 @@ pub fn escapes(
     visited: &mut [u16],
 ) -> usize
     requires { ⌜ (len ≤ n) × (n < 65536) × QueuedBelow n (now queue) len ⌝ }
-    requires { ⌜ Walkable (arcs n steps (now to) (now «out_head») (now «out_next»)) ⌝ }
-    requires { ⌜ (n ≤ length (now status)) × (n ≤ length (now successor)) × (n ≤ length (now queue)) × (n ≤ length (now visited)) ⌝ }
-    ensures { λ r. ⌜ Escapes (arcs n steps (now (to .entry)) (now («out_head» .entry)) (now («out_next» .entry)))
+    requires { ⌜ Walkable (chains n steps (now to) (now «out_head») (now «out_next»)) ⌝ }
+    requires { ⌜ (n ≤ length (now status)) × (n ≤ length (now successor)) × (n ≤ length (now queue)) × (visitedLength n ≤ length (now visited)) ⌝ }
+    ensures { λ r. ⌜ Escapes n (outOf (chains n steps (now (to .entry)) (now («out_head» .entry)) (now («out_next» .entry))))
         (now (status .entry)) (now (visited .entry)) (now (successor .entry)) (now (queue .entry))
         (now (visited .exit)) (now (successor .exit)) (now (queue .exit)) len r ⌝ }
 {
@@ -72,9 +71,9 @@ fn escape(
     visited: &mut [u16],
 ) -> usize
     requires { ⌜ (x < n) × (n < 65536) × (released + count n (marked (now visited)) ≤ n) ⌝ }
-    requires { ⌜ Walkable (arcs n steps (now to) (now «out_head») (now «out_next»)) ⌝ }
-    requires { ⌜ (n ≤ length (now status)) × (n ≤ length (now successor)) × (n ≤ length (now queue)) × (n ≤ length (now visited)) ⌝ }
-    ensures { λ r. ⌜ Tried (arcs n steps (now (to .entry)) (now («out_head» .entry)) (now («out_next» .entry)))
+    requires { ⌜ Walkable (chains n steps (now to) (now «out_head») (now «out_next»)) ⌝ }
+    requires { ⌜ (n ≤ length (now status)) × (n ≤ length (now successor)) × (n ≤ length (now queue)) × (visitedLength n ≤ length (now visited)) ⌝ }
+    ensures { λ r. ⌜ Tried n (outOf (chains n steps (now (to .entry)) (now («out_head» .entry)) (now («out_next» .entry))))
         (now (status .entry)) x (now (visited .entry)) (now (successor .entry)) (now (queue .entry))
         (now (visited .exit)) (now (successor .exit)) (now (queue .exit)) released r ⌝ }
 {
@@ -87,7 +86,7 @@ fn escape(
     released
 }
 
-// 1 + the index of a step from x to a state that is open or unknown and not visited, or 0.
+// 1 + the index of a step from x to a node that is open or unknown and not visited, or 0.
 fn way_out(
     n: usize,
     steps: usize,
@@ -99,9 +98,9 @@ fn way_out(
     visited: &[u16],
 ) -> usize
     requires { ⌜ x < n ⌝ }
-    requires { ⌜ Walkable (arcs n steps (now to) (now «out_head») (now «out_next»)) ⌝ }
-    requires { ⌜ (n ≤ length (now status)) × (n ≤ length (now visited)) ⌝ }
-    ensures { λ r. ⌜ WayOut (arcs n steps (now (to .entry)) (now («out_head» .entry)) (now («out_next» .entry)))
+    requires { ⌜ Walkable (chains n steps (now to) (now «out_head») (now «out_next»)) ⌝ }
+    requires { ⌜ (n ≤ length (now status)) × (visitedLength n ≤ length (now visited)) ⌝ }
+    ensures { λ r. ⌜ FindsOut n (outOf (chains n steps (now (to .entry)) (now («out_head» .entry)) (now («out_next» .entry))))
         (now (status .entry)) (now (visited .entry)) x r ⌝ }
 {
     let mut p = first(out_head, x, steps);
@@ -114,10 +113,10 @@ fn way_out(
     0
 }
 
-// Whether the step at index p leads to a state that is open or unknown and not visited.
+// Whether the step at index p leads to a node that is open or unknown and not visited.
 fn leads_out(n: usize, p: usize, to: &[u16], status: &[u8], visited: &[u16]) -> bool
-    requires { ⌜ (p < length (now to)) × (n ≤ length (now status)) × (n ≤ length (now visited)) ⌝ }
-    ensures { λ r. ⌜ r ≡ (hopeful n (now (status .entry)) (getD (now (to .entry)) p 0) && not (marked (now (visited .entry)) (getD (now (to .entry)) p 0))) ⌝ }
+    requires { ⌜ (p < length (now to)) × (n ≤ length (now status)) × (visitedLength n ≤ length (now visited)) ⌝ }
+    ensures { λ r. ⌜ r ≡ outside n (now (status .entry)) (now (visited .entry)) (getD (now (to .entry)) p 0) ⌝ }
 {
     let y = wide(to[p]);
     if n <= y {
@@ -132,7 +131,7 @@ fn leads_out(n: usize, p: usize, to: &[u16], status: &[u8], visited: &[u16]) -> 
     status[y] == UNKNOWN
 }
 
-// Releases, from the first len queued states on, each visited source of a released state. Answers how many are released in all.
+// Releases, from the first len queued nodes on, each visited source of a released one. Answers how many are released in all.
 pub fn rescue(
     n: usize,
     steps: usize,
@@ -145,9 +144,9 @@ pub fn rescue(
     visited: &mut [u16],
 ) -> usize
     requires { ⌜ (len + count n (marked (now visited)) ≤ n) × (n < 65536) × QueuedBelow n (now queue) len ⌝ }
-    requires { ⌜ Walkable (arcs n steps (now from) (now «in_head») (now «in_next»)) ⌝ }
-    requires { ⌜ (n ≤ length (now successor)) × (n ≤ length (now queue)) × (n ≤ length (now visited)) ⌝ }
-    ensures { λ r. ⌜ Rescues (arcs n steps (now (from .entry)) (now («in_head» .entry)) (now («in_next» .entry)))
+    requires { ⌜ Walkable (chains n steps (now from) (now «in_head») (now «in_next»)) ⌝ }
+    requires { ⌜ (n ≤ length (now successor)) × (n ≤ length (now queue)) × (visitedLength n ≤ length (now visited)) ⌝ }
+    ensures { λ r. ⌜ Rescues n (into (chains n steps (now (from .entry)) (now («in_head» .entry)) (now («in_next» .entry))))
         (now (visited .entry)) (now (successor .entry)) (now (queue .entry))
         (now (visited .exit)) (now (successor .exit)) (now (queue .exit)) len r ⌝ }
 {
@@ -185,12 +184,12 @@ fn rescue_sources(
     visited: &mut [u16],
 ) -> usize
     requires { ⌜ (len + count n (marked (now visited)) ≤ n) × (n < 65536) × QueuedBelow n (now queue) len × Before (now queue) len x ⌝ }
-    requires { ⌜ Walkable (arcs n steps (now from) (now «in_head») (now «in_next»)) ⌝ }
-    requires { ⌜ (n ≤ length (now successor)) × (n ≤ length (now queue)) × (n ≤ length (now visited)) ⌝ }
-    ensures { λ r. ⌜ Rescuing (arcs n steps (now (from .entry)) (now («in_head» .entry)) (now («in_next» .entry)))
+    requires { ⌜ Walkable (chains n steps (now from) (now «in_head») (now «in_next»)) ⌝ }
+    requires { ⌜ (n ≤ length (now successor)) × (n ≤ length (now queue)) × (visitedLength n ≤ length (now visited)) ⌝ }
+    ensures { λ r. ⌜ Releases n (WayTo (into (chains n steps (now (from .entry)) (now («in_head» .entry)) (now («in_next» .entry)))))
         (now (visited .entry)) (now (successor .entry)) (now (queue .entry))
         (now (visited .exit)) (now (successor .exit)) (now (queue .exit)) len r ⌝ }
-    ensures { λ r. ⌜ NoSource (arcs n steps (now (from .entry)) (now («in_head» .entry)) (now («in_next» .entry))) (now (visited .exit)) x ⌝ }
+    ensures { λ r. ⌜ NoSource n (into (chains n steps (now (from .entry)) (now («in_head» .entry)) (now («in_next» .entry)))) (now (visited .exit)) x ⌝ }
 {
     let mut released = len;
     let mut p = first(in_head, x, steps);
@@ -211,7 +210,7 @@ fn rescue_source(
     visited: &mut [u16],
 ) -> usize
     requires { ⌜ (released + count n (marked (now visited)) ≤ n) × (n < 65536) × (p < 65536) × (p < length (now from)) ⌝ }
-    requires { ⌜ (n ≤ length (now successor)) × (n ≤ length (now queue)) × (n ≤ length (now visited)) ⌝ }
+    requires { ⌜ (n ≤ length (now successor)) × (n ≤ length (now queue)) × (visitedLength n ≤ length (now visited)) ⌝ }
     ensures { λ r. ⌜ Pulled n (getD (now (from .entry)) p 0) p (now (visited .entry)) (now (successor .entry)) (now (queue .entry))
         (now (visited .exit)) (now (successor .exit)) (now (queue .exit)) released r ⌝ }
 {
@@ -234,7 +233,7 @@ fn release(
     queue: &mut [u16],
     visited: &mut [u16],
 ) -> usize
-    requires { ⌜ (x < 65536) × (p < 65536) × (x < length (now successor)) × (x < length (now visited)) × (released < length (now queue)) ⌝ }
+    requires { ⌜ (x < 65536) × (p < 65536) × (x < length (now successor)) × HasMark (now visited) x × (released < length (now queue)) ⌝ }
     ensures { λ r. ⌜ Taken x p (now (visited .entry)) (now (successor .entry)) (now (queue .entry))
         (now (visited .exit)) (now (successor .exit)) (now (queue .exit)) released r ⌝ }
 {

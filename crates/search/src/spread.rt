@@ -1,18 +1,20 @@
-// The closure along steps backwards. Queue length + number of unvisited states below n never grows, so the queue has room.
+// The closure along steps backwards. Queue length + number of unvisited nodes below n never grows, so the queue has room.
 ghost use mathlib.Core.Path.{_≡_};
 ghost use Prim.Native.Nat.{ℕ, _+_, _≤_, _<_};
 ghost use lib.ListN.{length, getD};
-ghost use Rattle.search.specs.Spreading.{arcs, Walkable, allowed, fresh, Spread};
-ghost use Rattle.search.specs.Offering.{unvisited, Begun, Admitted, Offered, Offers, SourcesVisited};
-use super::visits::is_visited;
-use super::visits::set_visited;
+ghost use Rattle.tables.specs.Tables.{visitedLength};
+ghost use Rattle.tables.specs.Visits.{HasMark};
+ghost use Rattle.search.specs.Spreading.{chains, into, Walkable, allowed, unvisited, Queued, Spread};
+ghost use Rattle.search.specs.Offering.{Begun, Admitted, Offered, Offers, SourcesVisited};
 use adjacency::after;
 use adjacency::first;
 use tables::LIVE;
 use tables::UNKNOWN;
+use tables::is_visited;
+use tables::set_visited;
 use tables::wide;
 
-// Which sources of a visited state are allowed.
+// Which sources of a visited node are allowed.
 pub enum Mode {
     // Those that are not live.
     Live,
@@ -22,19 +24,19 @@ pub enum Mode {
     Claimed,
 }
 
-// The states that were admitted: how many are queued, and the least and the greatest.
+// The nodes that were admitted: how many are queued, and bounds of them.
 pub struct Span {
     pub len: usize,
     pub low: usize,
     pub high: usize,
 }
 
-// Visits the start and, over and over, each allowed source of a visited state.
+// From the queued nodes, visits over and over each allowed source of a visited node.
 pub fn spread(
     mode: Mode,
     n: usize,
     steps: usize,
-    start: usize,
+    starts: Span,
     from: &[u16],
     in_head: &[u16],
     in_next: &[u16],
@@ -43,14 +45,14 @@ pub fn spread(
     queue: &mut [u16],
     visited: &mut [u16],
 ) -> Span
-    requires { ⌜ (start < n) × (n < 65536) ⌝ }
-    requires { ⌜ Walkable (arcs n steps (now from) (now «in_head») (now «in_next»)) ⌝ }
-    requires { ⌜ (n ≤ length (now status)) × (n ≤ length (now successor)) × (n ≤ length (now queue)) × (n ≤ length (now visited)) ⌝ }
-    ensures { λ r. ⌜ Spread (arcs n steps (now (from .entry)) (now («in_head» .entry)) (now («in_next» .entry)))
-        (fresh mode (now (status .entry)) (now (successor .entry)) (now (visited .entry)))
-        start (now (visited .entry)) (now (queue .entry)) (now (visited .exit)) (now (queue .exit)) r ⌝ }
+    requires { ⌜ (n < 65536) × Queued n (now visited) (now queue) starts ⌝ }
+    requires { ⌜ Walkable (chains n steps (now from) (now «in_head») (now «in_next»)) ⌝ }
+    requires { ⌜ (n ≤ length (now status)) × (n ≤ length (now successor)) × (n ≤ length (now queue)) × (visitedLength n ≤ length (now visited)) ⌝ }
+    ensures { λ r. ⌜ Spread n (into (chains n steps (now (from .entry)) (now («in_head» .entry)) (now («in_next» .entry))))
+        (allowed mode (now (status .entry)) (now (successor .entry)))
+        (now (visited .entry)) (now (queue .entry)) starts (now (visited .exit)) (now (queue .exit)) r ⌝ }
 {
-    let mut span = begin(start, queue, visited);
+    let mut span = starts;
     let mut at = 0;
     while at < span.len {
         let x = wide(queue[at]);
@@ -89,12 +91,12 @@ fn offer_sources(
     visited: &mut [u16],
 ) -> Span
     requires { ⌜ (x < n) × (n < 65536) × (before .len + unvisited n (now visited) ≤ n) ⌝ }
-    requires { ⌜ Walkable (arcs n steps (now from) (now «in_head») (now «in_next»)) ⌝ }
-    requires { ⌜ (n ≤ length (now status)) × (n ≤ length (now successor)) × (n ≤ length (now queue)) × (n ≤ length (now visited)) ⌝ }
-    ensures { λ r. ⌜ Offers (arcs n steps (now (from .entry)) (now («in_head» .entry)) (now («in_next» .entry)))
+    requires { ⌜ Walkable (chains n steps (now from) (now «in_head») (now «in_next»)) ⌝ }
+    requires { ⌜ (n ≤ length (now status)) × (n ≤ length (now successor)) × (n ≤ length (now queue)) × (visitedLength n ≤ length (now visited)) ⌝ }
+    ensures { λ r. ⌜ Offers n (into (chains n steps (now (from .entry)) (now («in_head» .entry)) (now («in_next» .entry))))
         (allowed mode (now (status .entry)) (now (successor .entry)))
         x (now (visited .entry)) (now (queue .entry)) before (now (visited .exit)) (now (queue .exit)) r ⌝ }
-    ensures { λ r. ⌜ SourcesVisited (arcs n steps (now (from .entry)) (now («in_head» .entry)) (now («in_next» .entry)))
+    ensures { λ r. ⌜ SourcesVisited n (into (chains n steps (now (from .entry)) (now («in_head» .entry)) (now («in_next» .entry))))
         (allowed mode (now (status .entry)) (now (successor .entry))) (now (visited .exit)) x ⌝ }
 {
     let mut span = before;
@@ -116,7 +118,7 @@ fn offer_sources(
     span
 }
 
-// Admits the source of the step at index p, where it is a state, not visited, and allowed.
+// Admits the source of the step at index p, where it is a node, not visited, and allowed.
 fn offer(
     mode: Mode,
     n: usize,
@@ -129,7 +131,7 @@ fn offer(
     visited: &mut [u16],
 ) -> Span
     requires { ⌜ (p < length (now from)) × (n < 65536) × (span .len + unvisited n (now visited) ≤ n) ⌝ }
-    requires { ⌜ (n ≤ length (now status)) × (n ≤ length (now successor)) × (n ≤ length (now queue)) × (n ≤ length (now visited)) ⌝ }
+    requires { ⌜ (n ≤ length (now status)) × (n ≤ length (now successor)) × (n ≤ length (now queue)) × (visitedLength n ≤ length (now visited)) ⌝ }
     ensures { λ r. ⌜ Offered n (allowed mode (now (status .entry)) (now (successor .entry)) (getD (now (from .entry)) p 0) p) (getD (now (from .entry)) p 0)
         (now (visited .entry)) (now (queue .entry)) span (now (visited .exit)) (now (queue .exit)) r ⌝ }
 {
@@ -163,8 +165,9 @@ fn allowed(mode: Mode, p: usize, y: usize, status: &[u8], successor: &[u16]) -> 
     }
 }
 
-fn begin(start: usize, queue: &mut [u16], visited: &mut [u16]) -> Span
-    requires { ⌜ (start < length (now visited)) × (0 < length (now queue)) × (start < 65536) ⌝ }
+// Visits and queues one node, as the first.
+pub fn begin(start: usize, queue: &mut [u16], visited: &mut [u16]) -> Span
+    requires { ⌜ HasMark (now visited) start × (0 < length (now queue)) × (start < 65536) ⌝ }
     ensures { λ r. ⌜ Begun start (now (visited .entry)) (now (queue .entry)) (now (visited .exit)) (now (queue .exit)) r ⌝ }
 {
     set_visited(visited, start);
@@ -176,8 +179,9 @@ fn begin(start: usize, queue: &mut [u16], visited: &mut [u16]) -> Span
     }
 }
 
-fn admit(span: Span, y: usize, queue: &mut [u16], visited: &mut [u16]) -> Span
-    requires { ⌜ (y < length (now visited)) × (span .len < length (now queue)) × (y < 65536) ⌝ }
+// Visits and queues a node behind the others.
+pub fn admit(span: Span, y: usize, queue: &mut [u16], visited: &mut [u16]) -> Span
+    requires { ⌜ HasMark (now visited) y × (span .len < length (now queue)) × (y < 65536) ⌝ }
     ensures { λ r. ⌜ Admitted y (now (visited .entry)) (now (queue .entry)) span (now (visited .exit)) (now (queue .exit)) r ⌝ }
 {
     let len = span.len;

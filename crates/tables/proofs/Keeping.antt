@@ -7,7 +7,7 @@ use native.Mathlib.Omega.{arith}
 use lib.ListN.{length, getD, set, drop, replicate, length-append, length-drop, length-replicate, length-set, List·getD-append, getD-replicate}
 use lib.Seq.{getD-set-other, getD-append-add, getD-drop}
 use borrow.Author.Fill.{fill-none, fill-more}
-use Rattle.tables.specs.Tables.{Tables, lengths}
+use Rattle.tables.specs.Tables.{Tables, lengths, visitedLength}
 use Rattle.tables.specs.Keeping.{Kept, KeptTables, filled}
 
 pub kept-none : (n : ℕ) (l : List ℕ) → Kept n l l
@@ -27,24 +27,24 @@ pub kept-equal : {n : ℕ} {l k : List ℕ} → k ≡ l → Kept n l k
 kept-equal {n} {l} e = rw e (kept-none n l)
 
 -- all tables
-pub tables-same : (n limit : ℕ) (t : Tables) → KeptTables n limit t t
-tables-same n limit t =
+pub tables-same : (n nodes limit : ℕ) (t : Tables) → KeptTables n nodes limit t t
+tables-same n nodes limit t =
     record {
-      status = kept-none n (t .status);
+      status = kept-none nodes (t .status);
       marks = kept-none n (t .marks);
       from = kept-none limit (t .from);
       to = kept-none limit (t .to);
-      successor = kept-none n (t .successor);
+      successor = kept-none nodes (t .successor);
       news = kept-none n (t .news);
-      inHead = kept-none n (t .inHead);
-      outHead = kept-none n (t .outHead);
-      queue = kept-none n (t .queue);
-      visited = kept-none n (t .visited);
+      inHead = kept-none nodes (t .inHead);
+      outHead = kept-none nodes (t .outHead);
+      queue = kept-none nodes (t .queue);
+      visited = kept-none (visitedLength nodes) (t .visited);
       inNext = kept-none limit (t .inNext);
       outNext = kept-none limit (t .outNext);
     }
 
-pub tables-then : {n limit : ℕ} {t t₁ t₂ : Tables} → KeptTables n limit t t₁ → KeptTables n limit t₁ t₂ → KeptTables n limit t t₂
+pub tables-then : {n nodes limit : ℕ} {t t₁ t₂ : Tables} → KeptTables n nodes limit t t₁ → KeptTables n nodes limit t₁ t₂ → KeptTables n nodes limit t t₂
 tables-then a b =
     record {
       status = kept-trans (a .status) (b .status);
@@ -61,7 +61,7 @@ tables-then a b =
       outNext = kept-trans (a .outNext) (b .outNext);
     }
 
-pub lengths-kept : {n limit : ℕ} {t t′ : Tables} → KeptTables n limit t t′ → lengths t′ ≡ lengths t
+pub lengths-kept : {n nodes limit : ℕ} {t t′ : Tables} → KeptTables n nodes limit t t′ → lengths t′ ≡ lengths t
 lengths-kept k =
     λ i.
     record {

@@ -3,5 +3,6 @@ pub mod Keeping
 pub mod Refusing
 pub mod Sizes
 pub mod Bits
+pub mod Marking
 pub mod Listed
 pub mod Starting

@@ -9,9 +9,10 @@ use lib.Dec.{leb}
 use lib.ListN.{length}
 use borrow.Author.Tests.{leb-true}
 use Rattle.tables.specs.declared.lengths.Lengths.{Lengths}
-use Rattle.tables.specs.Tables.{Tables, Needed, enough, workNeeds, checkNeeds, needs, lengths, total, Long}
+use Rattle.tables.specs.Tables.{Tables, Needed, enough, visitedLength, workNeeds, checkNeeds, needs, lengths, total, Long}
 
 pub work-fits : (n limit : ℕ) (l : Lengths) → total (workNeeds n limit l) ≤ 4 * n + 4 * limit
+unfolding visitedLength
 work-fits n limit l = omega arith
 
 -- each table is long enough
@@ -27,8 +28,8 @@ each-enough (x ∷ l) e = at (leb (x .need) (x .have)) refl e (each-enough l)
     at true q z i = (leb-true (x .need) (x .have) q, i z)
     at false q z i = absurd (false≢true z)
 
-module _ (n limit : ℕ) (t : Tables) where
-  long-each : Each (checkNeeds n limit (lengths t)) → Long n limit t
+module _ (n nodes limit : ℕ) (t : Tables) where
+  long-each : Each (checkNeeds n nodes limit (lengths t)) → Long n nodes limit t
   long-each a =
       record {
         status = a .0;
@@ -44,14 +45,14 @@ module _ (n limit : ℕ) (t : Tables) where
         outNext = a .1 .1 .1 .1 .1 .1 .1 .1 .1 .1 .0;
       }
 
-  pub long-checked : enough (checkNeeds n limit (lengths t)) ≡ true → Long n limit t
-  long-checked e = long-each (each-enough (checkNeeds n limit (lengths t)) e)
+  pub long-checked : enough (checkNeeds n nodes limit (lengths t)) ≡ true → Long n nodes limit t
+  long-checked e = long-each (each-enough (checkNeeds n nodes limit (lengths t)) e)
 
-  pub long-enough : enough (needs n limit (lengths t)) ≡ true → (n ≤ length (t .news)) × Long n limit t
-  long-enough e = let a = each-enough (needs n limit (lengths t)) e in (a .0, long-each (a .1))
+  pub long-enough : enough (needs n nodes limit (lengths t)) ≡ true → (n ≤ length (t .news)) × Long n nodes limit t
+  long-enough e = let a = each-enough (needs n nodes limit (lengths t)) e in (a .0, long-each (a .1))
 
 -- for fewer steps than the limit
-pub long-fewer : {n limit m : ℕ} {t : Tables} → m ≤ limit → Long n limit t → Long n m t
+pub long-fewer : {n nodes limit m : ℕ} {t : Tables} → m ≤ limit → Long n nodes limit t → Long n nodes m t
 long-fewer h l =
     record {
       status = l .status;

@@ -5,16 +5,18 @@ use mathlib.Core.List.{[], List·Memᴰ·not-nil}
 use Prim.Native.Nat.{ℕ, _<_}
 use native.Mathlib.Omega.{arith}
 use lib.ListN.{getD}
+use Rattle.gid.specs.Histories.{listed}
 use Rattle.gid.specs.Statuses.{isNamed, isTerminal, isClosed, status, statusUnknown}
 use Rattle.gid.proofs.Statuses.{status-unseen}
 use Rattle.gid.proofs.Chains.{successor-rule}
 use Rattle.tables.specs.declared.Graph.{Graph}
 use Rattle.tables.specs.Tables.{Tables}
-use Rattle.tables.specs.Work.{lastBefore, marked}
-use Rattle.tables.specs.Fitting.{sources, targets, marksOf, Consistent, Fresh}
+use Rattle.tables.specs.Work.{lastBefore}
+use Rattle.tables.specs.Fitting.{marksOf, StepAt, Consistent, Fresh}
+use Rattle.tables.proofs.Marking.{zeros-unvisited}
 
 pub fresh-consistent : (g : Graph) (t : Tables) → Fresh g t → Consistent [] g t
-unfolding sources targets marksOf isNamed isTerminal isClosed lastBefore marked
+unfolding listed marksOf isNamed isTerminal isClosed lastBefore
 fresh-consistent g t f =
     record {
       inRange = λ s m. absurd (List·Memᴰ·not-nil (m .1));
@@ -24,13 +26,12 @@ fresh-consistent g t f =
       to = rw (f .noSteps);
       status = λ s h. f .status s h ∙ sym (status-unseen [] s .1 (λ m. List·Memᴰ·not-nil (m .1)));
       successor =
-          successor-rule (g .n) (g .steps) (λ s. getD (t .status) s 0) (λ p. getD (t .from) p 0) (λ p. getD (t .to) p 0) (λ s. getD (t .successor) s 0)
-          (λ s u. absurd (none s u))
+          successor-rule (g .n) (StepAt (g .steps) (t .from) (t .to)) (λ s. getD (t .status) s 0) (λ s. getD (t .successor) s 0)
           (λ s u. absurd (none s u))
           (λ s h n. f .successor s h);
       into = record { heads = λ v h. rw (f .noSteps) (f .inHead v h); nexts = λ p h. absurd (omega (arith, f .noSteps)) };
       outOf = record { heads = λ v h. rw (f .noSteps) (f .outHead v h); nexts = λ p h. absurd (omega (arith, f .noSteps)) };
-      unvisited = λ s h. rw (f .visited s h);
+      unvisited = zeros-unvisited (g .n) (t .visited) (f .visited);
     }
   where
     none : (s : ℕ) → (s < g .n) × (getD (t .status) s 0 ≡ statusUnknown) → ⊥

@@ -2,29 +2,28 @@
 -- Assumes nothing.
 use mathlib.Core.Path.{_≡_}
 use mathlib.Core.Bool.{cond}
-use mathlib.Core.List.{List, [], _∷_, _++_}
+use mathlib.Core.List.{List, map}
 use Prim.Native.Nat.{ℕ, _+_, _<_}
 use lib.ListN.{getD, take, length}
-use Rattle.gid.specs.declared.Update.the-variants.{Step, Terminal, Close}
-use Rattle.gid.specs.Histories.{History, Legal, IsNamed}
+use Rattle.gid.specs.declared.Edge.{Edge}
+use Rattle.gid.specs.Histories.{History, Legal, IsNamed, listed}
 use Rattle.gid.specs.Statuses.{isNamed, isTerminal, isClosed, status}
 use Rattle.gid.specs.Successors.{SuccessorRule, noSuccessor}
 use Rattle.tables.specs.declared.Graph.{Graph}
-use Rattle.tables.specs.Tables.{Tables, lengths}
-use Rattle.tables.specs.Work.{ListRule, NoneVisited}
+use Rattle.tables.specs.Tables.{Tables, lengths, nodesOf, visitedLength}
+use Rattle.tables.specs.Visits.{NoneVisited}
+use Rattle.tables.specs.Work.{ListRule}
 
 -- The two ends of a history's steps, in order of acceptance.
-unfoldable pub sources : History → List ℕ
-sources [] = []
-sources (Step u v ∷ h) = sources h ++ (u ∷ [])
-sources (Terminal u ∷ h) = sources h
-sources (Close u ∷ h) = sources h
+abbrev pub sources : History → List ℕ
+sources h = map (λ (e : Edge). e .from) (listed h)
 
-unfoldable pub targets : History → List ℕ
-targets [] = []
-targets (Step u v ∷ h) = targets h ++ (v ∷ [])
-targets (Terminal u ∷ h) = targets h
-targets (Close u ∷ h) = targets h
+abbrev pub targets : History → List ℕ
+targets h = map (λ (e : Edge). e .to) (listed h)
+
+-- The listed steps as a relation of state, place and state, over the first m entries of the step list.
+abbrev pub StepAt : ℕ → List ℕ → List ℕ → ℕ → ℕ → ℕ → Type 0
+StepAt m from to s p t = (p < m) × (getD from p 0 ≡ s) × (getD to p 0 ≡ t)
 
 -- "the sum of 1 (named), 2 (terminal), 4 (closed)"
 unfoldable pub marksOf : History → ℕ → ℕ
@@ -36,16 +35,16 @@ pub record Consistent (h : History) (g : Graph) (t : Tables) : Type 0 where
   pub inRange : (s : ℕ) → IsNamed h s → s < g .n
   -- "these marks, this step list and these statuses"
   pub marks : (s : ℕ) → s < g .n → getD (t .marks) s 0 ≡ marksOf h s
-  pub steps : g .steps ≡ length (sources h)
+  pub steps : g .steps ≡ length (listed h)
   pub from : take (g .steps) (t .from) ≡ sources h
   pub to : take (g .steps) (t .to) ≡ targets h
-  pub status : (s : ℕ) → s < g .n → getD (t .status) s 0 ≡ status h s
+  pub status : (s : ℕ) → s < nodesOf g → getD (t .status) s 0 ≡ status h s
   -- "and the successor rule holds"
-  pub successor : SuccessorRule (g .n) (g .steps) (λ s. getD (t .status) s 0) (λ p. getD (t .from) p 0) (λ p. getD (t .to) p 0) (λ s. getD (t .successor) s 0)
+  pub successor : SuccessorRule (nodesOf g) (StepAt (g .steps) (t .from) (t .to)) (λ s. getD (t .status) s 0) (λ s. getD (t .successor) s 0)
   -- The work rule.
   pub into : ListRule (g .n) (g .steps) (t .to) (t .inHead) (t .inNext)
   pub outOf : ListRule (g .n) (g .steps) (t .from) (t .outHead) (t .outNext)
-  pub unvisited : NoneVisited (g .n) (t .visited)
+  pub unvisited : NoneVisited (nodesOf g) (t .visited)
 
 -- "Tables fit when some legal history gives" them.
 abbrev pub Fits : Graph → Tables → Type 0
@@ -58,13 +57,13 @@ AllBelow n v l = (s : ℕ) → s < n → getD l s 0 ≡ v
 -- "Fresh tables have status and marks 0, successors 65,535, no steps, and 0 in every needed work entry."
 pub record Fresh (g : Graph) (t : Tables) : Type 0 where
   pub noSteps : g .steps ≡ 0
-  pub status : AllBelow (g .n) 0 (t .status)
+  pub status : AllBelow (nodesOf g) 0 (t .status)
   pub marks : AllBelow (g .n) 0 (t .marks)
-  pub successor : AllBelow (g .n) noSuccessor (t .successor)
-  pub inHead : AllBelow (g .n) 0 (t .inHead)
-  pub outHead : AllBelow (g .n) 0 (t .outHead)
-  pub queue : AllBelow (g .n) 0 (t .queue)
-  pub visited : AllBelow (g .n) 0 (t .visited)
+  pub successor : AllBelow (nodesOf g) noSuccessor (t .successor)
+  pub inHead : AllBelow (nodesOf g) 0 (t .inHead)
+  pub outHead : AllBelow (nodesOf g) 0 (t .outHead)
+  pub queue : AllBelow (nodesOf g) 0 (t .queue)
+  pub visited : AllBelow (visitedLength (nodesOf g)) 0 (t .visited)
   pub inNext : AllBelow (g .limit) 0 (t .inNext)
   pub outNext : AllBelow (g .limit) 0 (t .outNext)
 

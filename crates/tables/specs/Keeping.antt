@@ -4,25 +4,29 @@ use mathlib.Core.Path.{_≡_}
 use mathlib.Core.List.{List, _++_}
 use Prim.Native.Nat.{ℕ, _≤_}
 use lib.ListN.{length, getD, drop, replicate}
-use Rattle.tables.specs.Tables.{Tables}
+use Rattle.tables.specs.Tables.{Tables, visitedLength}
 
 -- A table was written below n alone, and kept its length.
 pub record Kept (n : ℕ) (l l′ : List ℕ) : Type 0 where
   pub size : length l′ ≡ length l
   pub past : (i : ℕ) → n ≤ i → getD l′ i 0 ≡ getD l i 0
 
--- Every table was, for n states and a step limit.
-pub record KeptTables (n limit : ℕ) (t t′ : Tables) : Type 0 where
-  pub status : Kept n (t .status) (t′ .status)
+-- So were the visited marks of some nodes.
+abbrev pub KeptVisited : ℕ → List ℕ → List ℕ → Type 0
+KeptVisited nodes l l′ = Kept (visitedLength nodes) l l′
+
+-- Every table was, for n states, the nodes of a search and a step limit.
+pub record KeptTables (n nodes limit : ℕ) (t t′ : Tables) : Type 0 where
+  pub status : Kept nodes (t .status) (t′ .status)
   pub marks : Kept n (t .marks) (t′ .marks)
   pub from : Kept limit (t .from) (t′ .from)
   pub to : Kept limit (t .to) (t′ .to)
-  pub successor : Kept n (t .successor) (t′ .successor)
+  pub successor : Kept nodes (t .successor) (t′ .successor)
   pub news : Kept n (t .news) (t′ .news)
-  pub inHead : Kept n (t .inHead) (t′ .inHead)
-  pub outHead : Kept n (t .outHead) (t′ .outHead)
-  pub queue : Kept n (t .queue) (t′ .queue)
-  pub visited : Kept n (t .visited) (t′ .visited)
+  pub inHead : Kept nodes (t .inHead) (t′ .inHead)
+  pub outHead : Kept nodes (t .outHead) (t′ .outHead)
+  pub queue : Kept nodes (t .queue) (t′ .queue)
+  pub visited : KeptVisited nodes (t .visited) (t′ .visited)
   pub inNext : Kept limit (t .inNext) (t′ .inNext)
   pub outNext : Kept limit (t .outNext) (t′ .outNext)
 

@@ -1,6 +1,6 @@
 -- Which number a call gets on the tables that it is lent: gid's refusals, with what they turn on read from the tables.
 -- Assumes nothing.
-use mathlib.Core.Bool.{Bool, true}
+use mathlib.Core.Bool.{Bool, true, false}
 use mathlib.Core.List.{List, [], _∷_, _++_}
 use mathlib.Core.Option.{Option, some, none}
 use Prim.Native.Nat.{ℕ}
@@ -13,24 +13,29 @@ use Rattle.gid.specs.Outcomes.{Outcome, refused, accepted, byNumber}
 use Rattle.tables.specs.declared.Graph.{Graph}
 use Rattle.tables.specs.declared.Status.{Status}
 use Rattle.tables.specs.declared.Status.the-variants.{Byte, Refused}
-use Rattle.tables.specs.Tables.{Tables, enough, needs, lengths}
+use Rattle.tables.specs.Tables.{Tables, longEnough, nodesOf}
 use Rattle.tables.specs.Marks.{hasClosed}
 
--- A state value with what the tables say, where `long` says whether the tables that the call is lent are long enough.
-abbrev pub given : Graph → Bool → List ℕ → List ℕ → Given
-given g long marks status =
+-- The step list has no free place.
+abbrev pub isFull : Graph → Bool
+isFull g = eqb (g .steps) (g .limit)
+
+-- A state value with what the tables say, where `long` says whether the tables that the call is lent are long enough, and `full` whether a step finds no place.
+abbrev pub given : Graph → Bool → Bool → List ℕ → List ℕ → Given
+given g long full marks status =
     record {
       n = g .n;
       limit = g .limit;
       steps = g .steps;
       long = long;
+      full = full;
       closed = λ s. hasClosed (getD marks s 0);
       dead = λ s. eqb (getD status s 0) statusDead;
     }
 
 -- The number with which an update is refused on these tables, or none.
 abbrev pub refusalOn : Graph → Tables → Update → Option ℕ
-refusalOn g t x = refusal (given g (enough (needs (g .n) (g .limit) (lengths t))) (t .marks) (t .status)) x
+refusalOn g t x = refusal (given g (longEnough g t) (isFull g) (t .marks) (t .status)) x
 
 -- A number as the code has it: 0 for none.
 abbrev pub number : Option ℕ → ℕ
@@ -39,14 +44,14 @@ number (some k) = k
 
 -- The tests 1 to 4, and the tests 5 to 9, by themselves.
 unfoldable pub lentNumber : Graph → Bool → ℕ
-lentNumber g long = number (first (lent (given g long [] [])))
+lentNumber g long = number (first (lent (given g long false [] [])))
 
-unfoldable pub sentNumber : Graph → List ℕ → List ℕ → Update → ℕ
-sentNumber g marks status x = number (first (sent (given g true marks status) x))
+unfoldable pub sentNumber : Graph → Bool → List ℕ → List ℕ → Update → ℕ
+sentNumber g full marks status x = number (first (sent (given g true full marks status) x))
 
 -- The status question: "tests 1 to 5", and then the state's byte. "Test 3 covers the tables that the call in hand is lent": the status table.
 abbrev pub statusRules : Graph → List ℕ → ℕ → List Rule
-statusRules g status s = lent (given g (leb (g .n) (length status)) [] status) ++ (record { applies = leb (g .n) s; number = 5 } ∷ [])
+statusRules g status s = lent (given g (leb (nodesOf g) (length status)) false [] status) ++ (record { applies = leb (g .n) s; number = 5 } ∷ [])
 
 -- Document 01's number and value for each answer of the status question.
 abbrev pub statusOutcome : Status → Outcome ℕ

@@ -5,6 +5,7 @@ use mathlib.Core.List.{List, [], _∷_}
 use Prim.Native.Nat.{ℕ, _+_, _≤_}
 use lib.Dec.{leb}
 use lib.ListN.{length}
+use Rattle.tables.specs.declared.Graph.{Graph}
 use Rattle.tables.specs.declared.lengths.Lengths.{Lengths}
 
 pub record Tables : Type 0 where
@@ -47,6 +48,14 @@ tablesOf status marks from to successor news inHead outHead queue visited inNext
       outNext = outNext;
     }
 
+-- What a search runs over: a node for each state.
+abbrev pub nodesOf : Graph → ℕ
+nodesOf g = g .n
+
+-- How many entries the visited marks of some nodes take: one for each node.
+unfoldable pub visitedLength : ℕ → ℕ
+visitedLength nodes = nodes
+
 -- A table's length, and how many of its entries are needed.
 pub record Needed : Type 0 where
   pub have : ℕ
@@ -73,43 +82,47 @@ lengths t =
       «out_next» = length (t .outNext);
     }
 
--- The work tables, for n states and a step limit: "together at most 4n + 4 × limit entries" (proofs/Sizes.antt).
+-- The work tables, for the nodes of a search and a step limit: "together at most 4n + 4 × limit entries" (proofs/Sizes.antt).
 abbrev pub workNeeds : ℕ → ℕ → Lengths → List Needed
-workNeeds n limit l =
-    record { have = l .«in_head»; need = n } ∷
-    record { have = l .«out_head»; need = n } ∷
-    record { have = l .queue; need = n } ∷
-    record { have = l .visited; need = n } ∷
+workNeeds nodes limit l =
+    record { have = l .«in_head»; need = nodes } ∷
+    record { have = l .«out_head»; need = nodes } ∷
+    record { have = l .queue; need = nodes } ∷
+    record { have = l .visited; need = visitedLength nodes } ∷
     record { have = l .«in_next»; need = limit } ∷
     record { have = l .«out_next»; need = limit } ∷ []
 
--- The tables that a table check is lent: all but the news list.
-abbrev pub checkNeeds : ℕ → ℕ → Lengths → List Needed
-checkNeeds n limit l =
-    record { have = l .status; need = n } ∷
+-- The tables that a table check is lent, for n states besides: all but the news list.
+abbrev pub checkNeeds : ℕ → ℕ → ℕ → Lengths → List Needed
+checkNeeds n nodes limit l =
+    record { have = l .status; need = nodes } ∷
     record { have = l .marks; need = n } ∷
     record { have = l .from; need = limit } ∷
     record { have = l .to; need = limit } ∷
-    record { have = l .successor; need = n } ∷ workNeeds n limit l
+    record { have = l .successor; need = nodes } ∷ workNeeds nodes limit l
 
 -- An update is lent the news list besides.
-abbrev pub needs : ℕ → ℕ → Lengths → List Needed
-needs n limit l = record { have = l .news; need = n } ∷ checkNeeds n limit l
+abbrev pub needs : ℕ → ℕ → ℕ → Lengths → List Needed
+needs n nodes limit l = record { have = l .news; need = n } ∷ checkNeeds n nodes limit l
+
+-- Whether every table that an update is lent is long enough.
+abbrev pub longEnough : Graph → Tables → Bool
+longEnough g t = enough (needs (g .n) (nodesOf g) (g .limit) (lengths t))
 
 abbrev pub total : List Needed → ℕ
 total [] = 0
 total (x ∷ l) = x .need + total l
 
 -- Each table but the news list is long enough: what `checkNeeds` says, table by table (proofs/Sizes.antt).
-pub record Long (n limit : ℕ) (t : Tables) : Type 0 where
-  pub status : n ≤ length (t .status)
+pub record Long (n nodes limit : ℕ) (t : Tables) : Type 0 where
+  pub status : nodes ≤ length (t .status)
   pub marks : n ≤ length (t .marks)
   pub from : limit ≤ length (t .from)
   pub to : limit ≤ length (t .to)
-  pub successor : n ≤ length (t .successor)
-  pub inHead : n ≤ length (t .inHead)
-  pub outHead : n ≤ length (t .outHead)
-  pub queue : n ≤ length (t .queue)
-  pub visited : n ≤ length (t .visited)
+  pub successor : nodes ≤ length (t .successor)
+  pub inHead : nodes ≤ length (t .inHead)
+  pub outHead : nodes ≤ length (t .outHead)
+  pub queue : nodes ≤ length (t .queue)
+  pub visited : visitedLength nodes ≤ length (t .visited)
   pub inNext : limit ≤ length (t .inNext)
   pub outNext : limit ≤ length (t .outNext)

@@ -1,7 +1,7 @@
 -- The work rule: what the work tables hold between updates. For each state v, the steps into v are chained by falling index, and so are the steps out of v.
 -- Assumes nothing.
 use mathlib.Core.Path.{_≡_}
-use mathlib.Core.Bool.{Bool, false, not, cond}
+use mathlib.Core.Bool.{cond}
 use mathlib.Core.List.{List}
 use Prim.Native.Nat.{ℕ, zero, suc, _<_}
 use lib.Dec.{eqb}
@@ -16,11 +16,3 @@ lastBefore ends (suc b) v = cond (eqb (getD ends b 0) v) (suc b) (lastBefore end
 pub record ListRule (n m : ℕ) (ends head next : List ℕ) : Type 0 where
   pub heads : (v : ℕ) → v < n → getD head v 0 ≡ lastBefore ends m v
   pub nexts : (p : ℕ) → p < m → getD next p 0 ≡ lastBefore ends p (getD ends p 0)
-
--- The visited marks of a search, one for each state: 0 not visited, anything else visited.
-unfoldable pub marked : List ℕ → ℕ → Bool
-marked visited s = not (eqb (getD visited s 0) 0)
-
--- No state is marked as visited.
-abbrev pub NoneVisited : ℕ → List ℕ → Type 0
-NoneVisited n visited = (s : ℕ) → s < n → marked visited s ≡ false

@@ -2,9 +2,10 @@
 ghost use mathlib.Core.Path.{_≡_};
 ghost use mathlib.Core.Bool.{_&&_};
 ghost use Rattle.tables.specs.Tables.{enough, needs, checkNeeds};
+use super::visits::visited_len;
 
 pub struct Lengths {
-    // An entry for each state.
+    // An entry for each node of a search, or for each state.
     pub status: usize,
     pub marks: usize,
     pub successor: usize,
@@ -12,6 +13,7 @@ pub struct Lengths {
     pub in_head: usize,
     pub out_head: usize,
     pub queue: usize,
+    // A mark for each node.
     pub visited: usize,
     // An entry for each step of the limit.
     pub from: usize,
@@ -21,28 +23,28 @@ pub struct Lengths {
 }
 
 impl Lengths {
-    // Whether each table is long enough for n states and this step limit.
-    pub fn enough(self, n: usize, limit: usize) -> bool
-        ensures { λ r. ⌜ r ≡ enough (needs n limit self) ⌝ }
+    // Whether each table is long enough for n states, the nodes of a search and this step limit.
+    pub fn enough(self, n: usize, nodes: usize, limit: usize) -> bool
+        ensures { λ r. ⌜ r ≡ enough (needs n nodes limit self) ⌝ }
     {
-        both(n <= self.news, self.enough_to_check(n, limit))
+        both(n <= self.news, self.enough_to_check(n, nodes, limit))
     }
 
     // The same but for the news list, which a table check is not lent.
-    pub fn enough_to_check(self, n: usize, limit: usize) -> bool
-        ensures { λ r. ⌜ r ≡ enough (checkNeeds n limit self) ⌝ }
+    pub fn enough_to_check(self, n: usize, nodes: usize, limit: usize) -> bool
+        ensures { λ r. ⌜ r ≡ enough (checkNeeds n nodes limit self) ⌝ }
     {
         let rest = both(limit <= self.out_next, true);
         let rest = both(limit <= self.in_next, rest);
-        let rest = both(n <= self.visited, rest);
-        let rest = both(n <= self.queue, rest);
-        let rest = both(n <= self.out_head, rest);
-        let rest = both(n <= self.in_head, rest);
-        let rest = both(n <= self.successor, rest);
+        let rest = both(visited_len(nodes) <= self.visited, rest);
+        let rest = both(nodes <= self.queue, rest);
+        let rest = both(nodes <= self.out_head, rest);
+        let rest = both(nodes <= self.in_head, rest);
+        let rest = both(nodes <= self.successor, rest);
         let rest = both(limit <= self.to, rest);
         let rest = both(limit <= self.from, rest);
         let rest = both(n <= self.marks, rest);
-        both(n <= self.status, rest)
+        both(nodes <= self.status, rest)
     }
 }
 

@@ -1,18 +1,22 @@
 // What the engine is handed, and what it refuses: the state value, the caller's tables, the numbers 1 to 9, the mark bits, and the status question.
 ghost use mathlib.Core.Path.{_≡_};
-ghost use Prim.Native.Nat.{_+_, _≤_, _<_};
+ghost use Prim.Native.Nat.{_≤_, _<_};
 ghost use lib.ListN.{length};
-ghost use Rattle.tables.specs.Refused.{lentNumber, sentNumber, statusOutcome, statusAnswer};
+ghost use Rattle.tables.specs.Refused.{isFull, lentNumber, sentNumber, statusOutcome, statusAnswer};
+ghost use Rattle.gid.specs.Histories.{added};
+ghost use Rattle.tables.specs.Tables.{nodesOf};
 ghost use Rattle.tables.specs.Listing.{graphAfter};
 
 mod entries;
 mod lengths;
 mod marks;
+mod visits;
 
 pub use entries::fill;
 pub use entries::fill_bytes;
 pub use entries::status_of;
 pub use entries::wide;
+use gid::Edge;
 use gid::Update;
 pub use lengths::Lengths;
 pub use marks::has_closed;
@@ -21,6 +25,10 @@ pub use marks::has_terminal;
 pub use marks::with_closed;
 pub use marks::with_named;
 pub use marks::with_terminal;
+pub use visits::clear_visited;
+pub use visits::is_visited;
+pub use visits::set_visited;
+pub use visits::visited_len;
 
 // "There are n states, numbered 0 to n−1, with n from 1 to 2,048."
 pub const MAX_STATES: usize = 2048;
@@ -101,26 +109,41 @@ impl Graph {
         SHORT_TABLE
     }
 
-    // The number of the first of the tests 5 to 9 that applies to an update, or 0.
-    pub fn sent(self, update: Update, marks: &[u8], status: &[u8]) -> u8
+    // The nodes of a search: one for each state.
+    pub fn nodes(self) -> usize
+        ensures { λ r. ⌜ r ≡ nodesOf self ⌝ }
+    {
+        self.n
+    }
+
+    // Whether the step list has no free place.
+    pub fn is_full(self) -> bool
+        ensures { λ r. ⌜ r ≡ isFull self ⌝ }
+    {
+        self.steps == self.limit
+    }
+
+    // The number of the first of the tests 5 to 9 that applies to an update, or 0. `full`: a step finds no place.
+    pub fn sent(self, full: bool, update: Update, marks: &[u8], status: &[u8]) -> u8
         requires { ⌜ (self .n ≤ length (now marks)) × (self .n ≤ length (now status)) ⌝ }
-        ensures { λ r. ⌜ r ≡ sentNumber self (now (marks .entry)) (now (status .entry)) update ⌝ }
+        ensures { λ r. ⌜ r ≡ sentNumber self full (now (marks .entry)) (now (status .entry)) update ⌝ }
     {
         match update {
-            Update::Step { from, to } => self.sent_step(from, to, marks, status),
-            Update::Terminal { state } => self.sent_terminal(state, marks, status),
-            Update::Close { state } => self.sent_close(state, marks, status),
+            Update::Step { edge } => self.sent_step(full, edge, marks, status),
+            Update::Terminal { state } => self.sent_terminal(full, state, marks, status),
+            Update::Close { state } => self.sent_close(full, state, marks, status),
         }
     }
 
-    fn sent_step(self, from: usize, to: usize, marks: &[u8], status: &[u8]) -> u8
+    fn sent_step(self, full: bool, edge: Edge, marks: &[u8], status: &[u8]) -> u8
         requires { ⌜ (self .n ≤ length (now marks)) × (self .n ≤ length (now status)) ⌝ }
-        ensures { λ r. ⌜ r ≡ sentNumber self (now (marks .entry)) (now (status .entry)) (Update.Step from to) ⌝ }
+        ensures { λ r. ⌜ r ≡ sentNumber self full (now (marks .entry)) (now (status .entry)) (Update.Step edge) ⌝ }
     {
+        let from = edge.from;
         if self.n <= from {
             return OUT_OF_RANGE;
         }
-        if self.n <= to {
+        if self.n <= edge.to {
             return OUT_OF_RANGE;
         }
         if has_closed(marks[from]) {
@@ -129,15 +152,15 @@ impl Graph {
         if status[from] == DEAD {
             return DEAD_SOURCE;
         }
-        if self.steps == self.limit {
+        if full {
             return LIST_FULL;
         }
         0
     }
 
-    fn sent_terminal(self, state: usize, marks: &[u8], status: &[u8]) -> u8
+    fn sent_terminal(self, full: bool, state: usize, marks: &[u8], status: &[u8]) -> u8
         requires { ⌜ (self .n ≤ length (now marks)) × (self .n ≤ length (now status)) ⌝ }
-        ensures { λ r. ⌜ r ≡ sentNumber self (now (marks .entry)) (now (status .entry)) (Update.Terminal state) ⌝ }
+        ensures { λ r. ⌜ r ≡ sentNumber self full (now (marks .entry)) (now (status .entry)) (Update.Terminal state) ⌝ }
     {
         if self.n <= state {
             return OUT_OF_RANGE;
@@ -151,9 +174,9 @@ impl Graph {
         0
     }
 
-    fn sent_close(self, state: usize, marks: &[u8], status: &[u8]) -> u8
+    fn sent_close(self, full: bool, state: usize, marks: &[u8], status: &[u8]) -> u8
         requires { ⌜ (self .n ≤ length (now marks)) × (self .n ≤ length (now status)) ⌝ }
-        ensures { λ r. ⌜ r ≡ sentNumber self (now (marks .entry)) (now (status .entry)) (Update.Close state) ⌝ }
+        ensures { λ r. ⌜ r ≡ sentNumber self full (now (marks .entry)) (now (status .entry)) (Update.Close state) ⌝ }
     {
         if self.n <= state {
             return OUT_OF_RANGE;
@@ -169,14 +192,10 @@ impl Graph {
         requires { ⌜ self .steps < 65536 ⌝ }
         ensures { λ r. ⌜ r ≡ graphAfter self update ⌝ }
     {
-        match update {
-            Update::Step { from: _, to: _ } => Graph {
-                n: self.n,
-                limit: self.limit,
-                steps: self.steps + 1,
-            },
-            Update::Terminal { state: _ } => self,
-            Update::Close { state: _ } => self,
+        Graph {
+            n: self.n,
+            limit: self.limit,
+            steps: self.steps + places(update),
         }
     }
 
@@ -184,7 +203,7 @@ impl Graph {
     pub fn status(self, status: &[u8], state: usize) -> Status
         ensures { λ r. ⌜ statusOutcome r ≡ statusAnswer self (now (status .entry)) state ⌝ }
     {
-        let refused = self.lent(self.n <= status.len());
+        let refused = self.lent(self.nodes() <= status.len());
         if refused != 0 {
             return Status::Refused(refused);
         }
@@ -192,5 +211,16 @@ impl Graph {
             return Status::Refused(OUT_OF_RANGE);
         }
         Status::Byte(status[state])
+    }
+}
+
+// How many places of the step list an update takes.
+fn places(update: Update) -> usize
+    ensures { λ r. ⌜ (r ≡ length (added update)) × (r ≤ 1) ⌝ }
+{
+    match update {
+        Update::Step { edge: _ } => 1,
+        Update::Terminal { state: _ } => 0,
+        Update::Close { state: _ } => 0,
     }
 }

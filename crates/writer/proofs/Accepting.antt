@@ -7,20 +7,21 @@ use mathlib.Core.Option.{none}
 use mathlib.Core.Bool.{false}
 use Prim.Native.Nat.{ℕ, _+_, _≤_, _<_}
 use native.Mathlib.Omega.{arith}
+use lib.ListN.{length, length-append}
 use borrow.Author.Tests.{lt-leb, le-ltb, ne-eqb}
 use Rattle.gid.specs.declared.Update.{Update}
 use Rattle.gid.specs.declared.Update.the-variants.{Step, Terminal, Close}
 use Rattle.gid.specs.Updates.{source, Mentions}
-use Rattle.gid.specs.Histories.{History, IsClosed, Legal, following}
+use Rattle.gid.specs.Histories.{History, IsClosed, Legal, following, added, listed}
 use Rattle.gid.specs.Statuses.{isClosed, isDead}
 use Rattle.gid.specs.News.{news}
 use Rattle.gid.specs.Refusals.{lent, sent, refusal, maxSteps}
-use Rattle.gid.specs.Outcomes.{accepted, countSteps, givenAfter, outcome, after}
+use Rattle.gid.specs.Outcomes.{accepted, givenAfter, outcome, after}
 use Rattle.gid.proofs.Decide.{refutes}
 use Rattle.gid.proofs.Tests.{decides-closed, decides-dead}
 use Rattle.gid.proofs.Deadness.{dead-closed}
 use Rattle.tables.proofs.Refusing.{NoneApply, none-applies, first-none}
-use Rattle.reader.specs.Opening.{readerStates}
+use Rattle.reader.specs.Opening.{readerStates, readerGraph}
 use Rattle.reader.specs.Replaying.{afterItems, firstRefusal}
 use Rattle.writer.proofs.Splits.{numbered}
 
@@ -33,20 +34,19 @@ legal-before : (h : History) (l : List Update) → Legal (following h l) → Leg
 legal-before h [] p = p
 legal-before h (x ∷ l) p = legal-before (x ∷ h) l p .0
 
-fewer-before : (h : History) (l : List Update) → countSteps h ≤ countSteps (following h l)
+fewer-before : (h : History) (l : List Update) → length (listed h) ≤ length (listed (following h l))
+unfolding listed
 fewer-before h [] = omega arith
-fewer-before h (Step u v ∷ l) = omega (arith, fewer-before (Step u v ∷ h) l)
-fewer-before h (Terminal u ∷ l) = fewer-before (Terminal u ∷ h) l
-fewer-before h (Close u ∷ l) = fewer-before (Close u ∷ h) l
+fewer-before h (x ∷ l) = omega (arith, length-append (listed h) (added x), fewer-before (x ∷ h) l)
 
 module _ (limit : ℕ) (some-limit : 0 < limit) (low : limit ≤ maxSteps) where
   -- no test applies to an update from a state that is not closed: a dead one is
-  unrefused : (h : History) (x : Update) → StatesBelow readerStates x → (IsClosed h (source x) → ⊥) → countSteps (x ∷ h) ≤ limit → refusal (givenAfter readerStates limit h) x ≡ none
-  unfolding refusal givenAfter
+  unrefused : (h : History) (x : Update) → StatesBelow readerStates x → (IsClosed h (source x) → ⊥) → length (listed (x ∷ h)) ≤ limit → refusal (givenAfter readerStates limit h) x ≡ none
+  unfolding refusal givenAfter listed
   unrefused h x r o c = first-none (lent (givenAfter readerStates limit h)) (sent (givenAfter readerStates limit h) x) (none-applies (lent (givenAfter readerStates limit h)) (lent-passed (fewer-before h (x ∷ [])))) ∙ none-applies (sent (givenAfter readerStates limit h) x) (sent-passed x r o c)
     where
-      lent-passed : countSteps h ≤ countSteps (x ∷ h) → NoneApply (lent (givenAfter readerStates limit h))
-      lent-passed f = (refl, (rw (ne-eqb limit 0 (λ e. omega arith), le-ltb maxSteps limit low), (refl, (le-ltb limit (countSteps h) (omega arith), tt))))
+      lent-passed : length (listed h) ≤ length (listed (x ∷ h)) → NoneApply (lent (givenAfter readerStates limit h))
+      lent-passed f = (refl, (rw (ne-eqb limit 0 (λ e. omega arith), le-ltb maxSteps limit low), (refl, (le-ltb limit (length (listed h)) (omega arith), tt))))
 
       unclosed : (u : ℕ) → (IsClosed h u → ⊥) → isClosed h u ≡ false
       unclosed u n = refutes (isClosed h u) (decides-closed h u) n
@@ -54,8 +54,8 @@ module _ (limit : ℕ) (some-limit : 0 < limit) (low : limit ≤ maxSteps) where
       undead : (u : ℕ) → (IsClosed h u → ⊥) → isDead h u ≡ false
       undead u n = refutes (isDead h u) (decides-dead h u) (λ d. n (dead-closed d))
 
-      sent-passed : (y : Update) → StatesBelow readerStates y → (IsClosed h (source y) → ⊥) → countSteps (y ∷ h) ≤ limit → NoneApply (sent (givenAfter readerStates limit h) y)
-      sent-passed (Step u v) q n k = (rw (lt-leb readerStates u (q u (inl refl)), lt-leb readerStates v (q v (inr refl))), (unclosed u n, (undead u n, (ne-eqb (countSteps h) limit (λ e. omega arith), tt))))
+      sent-passed : (y : Update) → StatesBelow readerStates y → (IsClosed h (source y) → ⊥) → length (listed (y ∷ h)) ≤ limit → NoneApply (sent (givenAfter readerStates limit h) y)
+      sent-passed (Step e) q n k = (rw (lt-leb readerStates (e .from) (q (e .from) (inl refl)), lt-leb readerStates (e .to) (q (e .to) (inr refl))), (unclosed (e .from) n, (undead (e .from) n, (ne-eqb (length (listed h)) limit (λ z. omega (arith, length-append (listed h) (e ∷ []))), tt))))
       sent-passed (Terminal u) q n k = (lt-leb readerStates u (q u refl), (unclosed u n, (undead u n, tt)))
       sent-passed (Close u) q n k = (lt-leb readerStates u (q u refl), (unclosed u n, tt))
 
@@ -64,11 +64,11 @@ module _ (limit : ℕ) (some-limit : 0 < limit) (low : limit ≤ maxSteps) where
   accepts h x e = (rw (e, outcome), rw (e, after))
 
   -- No line is refused, and the history after them is all of them.
-  pub lines-accepted : (k : ℕ) (h : History) (l : List Update) → Legal (following h l) → ((x : Update) → List·Memᴰ x l → StatesBelow readerStates x) → countSteps (following h l) ≤ limit → (firstRefusal limit h (numbered k l) ≡ none) × (afterItems limit h (numbered k l) ≡ following h l)
+  pub lines-accepted : (k : ℕ) (h : History) (l : List Update) → Legal (following h l) → ((x : Update) → List·Memᴰ x l → StatesBelow readerStates x) → length (listed (following h l)) ≤ limit → (firstRefusal (readerGraph limit) h (numbered k l) ≡ none) × (afterItems (readerGraph limit) h (numbered k l) ≡ following h l)
   unfolding numbered
   lines-accepted k h [] p r c = (refl, refl)
   lines-accepted k h (x ∷ l) p r c =
       let f = fewer-before (x ∷ h) l in
       let e = accepts h x (unrefused h x (r x (List·Memᴰ·head refl)) (legal-before (x ∷ h) l p .1) (omega arith)) in
       let i = lines-accepted (k + 1) (x ∷ h) l p (λ y m. r y (List·Memᴰ·tail m)) c in
-      (rw (e .0, e .1) (i .0), ap (λ (f : History). afterItems limit f (numbered (k + 1) l)) (e .1) ∙ i .1)
+      (rw (e .0, e .1) (i .0), ap (λ (f : History). afterItems (readerGraph limit) f (numbered (k + 1) l)) (e .1) ∙ i .1)

@@ -8,6 +8,7 @@ use native.Mathlib.Omega.{arith}
 use native.Mathlib.Numerals.{add-one}
 use native.Mathlib.Decide.{ℕ-discrete}
 use lib.ListN.{length, length-append}
+use Rattle.gid.specs.declared.Edge.{Edge}
 use Rattle.gid.specs.declared.Update.{Update}
 use Rattle.gid.specs.declared.Update.the-variants.{Step, Terminal, Close}
 use Rattle.record.specs.Text.{decimal, head, text, maxValue, Within}
@@ -38,8 +39,8 @@ four-digits v p q = more-digits v 3 (omega arith) (three-digits (v / 10) (omega 
 pub five-digits : (v : ℕ) → 10000 ≤ v → v < 100000 → length (decimal v) ≡ 5
 five-digits v p q = more-digits v 4 (omega arith) (four-digits (v / 10) (omega arith) (omega arith))
 
-pub step-size : (u v : ℕ) → length (lineBytes (Step u v)) ≡ length (decimal u) + length (decimal v) + 4
-step-size u v = omega (arith, length-append (text (Step u v)) (10 ∷ []), length-append (head 69 u) (decimal v), head-length 69 u)
+pub step-size : (e : Edge) → length (lineBytes (Step e)) ≡ length (decimal (e .from)) + length (decimal (e .to)) + 4
+step-size e = omega (arith, length-append (text (Step e)) (10 ∷ []), length-append (head 69 (e .from)) (decimal (e .to)), head-length 69 (e .from))
 
 pub terminal-size : (u : ℕ) → length (lineBytes (Terminal u)) ≡ length (decimal u) + 5
 terminal-size u = omega (arith, length-append (text (Terminal u)) (10 ∷ []), length-append (head 84 u) (45 ∷ []), head-length 84 u)

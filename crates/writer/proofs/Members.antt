@@ -8,23 +8,24 @@ use Prim.Native.Nat.{ℕ, zero, suc, _+_, _≤_, _<_}
 use native.Mathlib.Omega.{arith}
 use native.Mathlib.Decide.{ℕ-discrete}
 use lib.ListN.{length, getD, take, length-take}
-use lib.Seq.{take-suc}
+use lib.Seq.{take-suc, take-length}
+use Rattle.gid.specs.declared.Edge.{Edge}
 use Rattle.gid.specs.declared.Update.{Update}
 use Rattle.gid.specs.declared.Update.the-variants.{Step, Terminal, Close}
-use Rattle.gid.specs.Updates.{source}
-use Rattle.gid.specs.Histories.{History, Has, IsClosed, Legal, following}
+use Rattle.gid.specs.Updates.{edge, source}
+use Rattle.gid.specs.Histories.{History, Has, IsClosed, Legal, following, listed}
 use Rattle.gid.specs.Statuses.{isNamed, isTerminal, isClosed}
 use Rattle.gid.proofs.Decide.{Decides}
 use Rattle.gid.proofs.Tests.{decides-terminal, decides-closed, step-close, terminal-close}
 use Rattle.tables.specs.declared.Graph.{Graph}
 use Rattle.tables.specs.Tables.{Tables}
 use Rattle.tables.specs.Marks.{hasTerminal}
-use Rattle.tables.specs.Fitting.{sources, targets, marksOf, Consistent}
+use Rattle.tables.specs.Fitting.{marksOf, Consistent}
 use Rattle.tables.proofs.Bits.{marks-bits}
-use Rattle.tables.proofs.Listed.{targets-length, step-listed, listed-step}
+use Rattle.tables.proofs.Listed.{lists-of, arcs-listed, step-in-list, list-has-step}
 use Rattle.writer.specs.declared.marking.Mark.{Mark}
 use Rattle.writer.specs.declared.marking.Mark.the-variants.{Terminal as ForTerminal, Close as ForClose}
-use Rattle.writer.specs.Order.{hasMark, marking, inOrder, isMarked, markedLines, stepAt, stepLines, writtenUpdates}
+use Rattle.writer.specs.Order.{hasMark, marking, inOrder, isMarked, markedLines, edgeAt, stepAt, stepLines, writtenUpdates}
 
 -- The history after a list of updates has what it had, and the list's.
 following-append : (h : History) (a b : List Update) → following h (a ++ b) ≡ following (following h a) b
@@ -79,58 +80,52 @@ module _ (test : ℕ → Bool) (update : ℕ → Update) where
       at true i = (i, λ m. ⊎-elim (p n) (λ o. q n (o .0) (o .1) (o .2)) (order-closed n m))
       at false i = i
 
--- One end of a history's steps, in order of acceptance.
-record Ends (ends : History → List ℕ) (end : ℕ → ℕ → ℕ) : Type 0 where
-  none : ends [] ≡ []
-  step : (h : History) (u v : ℕ) → ends (Step u v ∷ h) ≡ ends h ++ (end u v ∷ [])
-  terminal : (h : History) (s : ℕ) → ends (Terminal s ∷ h) ≡ ends h
-  close : (h : History) (s : ℕ) → ends (Close s ∷ h) ≡ ends h
+-- The first m steps of two lists.
+firsts : ℕ → List ℕ → List ℕ → List Edge
+firsts zero from to = []
+firsts (suc m) from to = firsts m from to ++ (edgeAt from to m ∷ [])
 
-sources-ends : Ends sources (λ u v. u)
-unfolding sources
-sources-ends = record { none = refl; step = λ h u v. refl; terminal = λ h s. refl; close = λ h s. refl }
+module _ (marks from to : List ℕ) where
+  -- A mark lists no step,
+  listed-mark : (k : Mark) (h : History) (s : ℕ) → listed (marking k s ∷ h) ≡ listed h
+  unfolding listed
+  listed-mark ForTerminal h s = append-nil (listed h)
+  listed-mark ForClose h s = append-nil (listed h)
 
-targets-ends : Ends targets (λ u v. v)
-unfolding targets
-targets-ends = record { none = refl; step = λ h u v. refl; terminal = λ h s. refl; close = λ h s. refl }
-
-module _ {ends : History → List ℕ} {end : ℕ → ℕ → ℕ} (e : Ends ends end) (marks from to : List ℕ) where
-  ends-mark : (k : Mark) (h : History) (s : ℕ) → ends (marking k s ∷ h) ≡ ends h
-  ends-mark ForTerminal = e .terminal
-  ends-mark ForClose = e .close
-
-  ends-marks : (k : Mark) (n : ℕ) (h : History) → ends (following h (markedLines k n marks)) ≡ ends h
+  listed-marks : (k : Mark) (n : ℕ) (h : History) → listed (following h (markedLines k n marks)) ≡ listed h
   unfolding inOrder
-  ends-marks k zero h = refl
-  ends-marks k (suc n) h = rw (following-append h (markedLines k n marks) (cond (isMarked k marks n) (marking k n ∷ []) [])) (at (isMarked k marks n) ∙ ends-marks k n h)
+  listed-marks k zero h = refl
+  listed-marks k (suc n) h = rw (following-append h (markedLines k n marks) (cond (isMarked k marks n) (marking k n ∷ []) [])) (at (isMarked k marks n) ∙ listed-marks k n h)
     where
-      at : (b : Bool) → ends (following (following h (markedLines k n marks)) (cond b (marking k n ∷ []) [])) ≡ ends (following h (markedLines k n marks))
-      at true = ends-mark k (following h (markedLines k n marks)) n
+      at : (b : Bool) → listed (following (following h (markedLines k n marks)) (cond b (marking k n ∷ []) [])) ≡ listed (following h (markedLines k n marks))
+      at true = listed-mark k (following h (markedLines k n marks)) n
       at false = refl
 
-  ends-steps : (l : List ℕ) → ((p : ℕ) → end (getD from p 0) (getD to p 0) ≡ getD l p 0) → (m : ℕ) → m ≤ length l → (h : History) → ends (following h (stepLines m from to)) ≡ ends h ++ take m l
-  unfolding inOrder
-  ends-steps l q zero p h = sym (append-nil (ends h))
-  ends-steps l q (suc m) p h =
-      rw (following-append h (stepLines m from to) (stepAt from to m ∷ []), e .step (following h (stepLines m from to)) (getD from m 0) (getD to m 0), ends-steps l q m (omega arith) h, q m, take-suc l m 0 p) (append-assoc (ends h) (take m l) (getD l m 0 ∷ []))
+  -- and the steps are listed one behind the other.
+  listed-steps : (m : ℕ) (h : History) → listed (following h (stepLines m from to)) ≡ listed h ++ firsts m from to
+  unfolding inOrder firsts listed
+  listed-steps zero h = sym (append-nil (listed h))
+  listed-steps (suc m) h =
+      rw (following-append h (stepLines m from to) (stepAt from to m ∷ []), listed-steps m h) (append-assoc (listed h) (firsts m from to) (edgeAt from to m ∷ []))
 
 module _ (n m : ℕ) (marks from to : List ℕ) where
   abbrev terminals : History
   terminals = following [] (markedLines ForTerminal n marks)
 
-  abbrev listed : History
-  listed = following terminals (stepLines m from to)
+  abbrev stepped : History
+  stepped = following terminals (stepLines m from to)
 
-  parts-follow : following [] (writtenUpdates n m marks from to) ≡ following listed (markedLines ForClose n marks)
+  parts-follow : following [] (writtenUpdates n m marks from to) ≡ following stepped (markedLines ForClose n marks)
   unfolding writtenUpdates
   parts-follow =
       following-append [] (markedLines ForTerminal n marks) (stepLines m from to ++ markedLines ForClose n marks) ∙
       following-append terminals (stepLines m from to) (markedLines ForClose n marks)
 
   -- The steps of the written updates are the listed ones, in list order.
-  written-ends : {ends : History → List ℕ} {end : ℕ → ℕ → ℕ} → Ends ends end → (l : List ℕ) → ((p : ℕ) → end (getD from p 0) (getD to p 0) ≡ getD l p 0) → m ≤ length l → ends (following [] (writtenUpdates n m marks from to)) ≡ take m l
-  written-ends e l q p =
-      rw (parts-follow, ends-marks e marks from to ForClose n listed, ends-steps e marks from to l q m p terminals, ends-marks e marks from to ForTerminal n [], e .none)
+  written-listed : listed (following [] (writtenUpdates n m marks from to)) ≡ firsts m from to
+  unfolding listed
+  written-listed =
+      rw (parts-follow, listed-marks marks from to ForClose n stepped, listed-steps marks from to m terminals, listed-marks marks from to ForTerminal n [])
 
   -- Terminal marks and steps come before every close, and a state is closed once.
   pub written-legal : Legal (following [] (writtenUpdates n m marks from to))
@@ -139,8 +134,8 @@ module _ (n m : ℕ) (marks from to : List ℕ) where
       (order-legal (isMarked ForClose marks) Close n
       (order-legal (λ p. true) (stepAt from to) m
       (order-legal (isMarked ForTerminal marks) Terminal n tt (λ i q. List·Memᴰ·not-nil q) (λ i j p q. terminal-close j i (sym q)))
-      (λ i q. unmarked q) (λ i j p q. step-close (getD from j 0) (getD to j 0) (getD from i 0) (sym q)))
-      (λ i q. ⊎-elim unmarked (λ o. step-close (getD from (o .0) 0) (getD to (o .0) 0) i (sym (o .2))) (order-closed (λ p. true) (stepAt from to) m q))
+      (λ i q. unmarked q) (λ i j p q. step-close (edgeAt from to j) (getD from i 0) (sym q)))
+      (λ i q. ⊎-elim unmarked (λ o. step-close (edgeAt from to (o .0)) i (sym (o .2))) (order-closed (λ p. true) (stepAt from to) m q))
       (λ i j p q. let z : i ≡ j = cc in omega arith))
     where
       unmarked : {s : ℕ} → IsClosed terminals s → ⊥
@@ -166,7 +161,7 @@ module _ {h : History} {g : Graph} {t : Tables} (c : Consistent h g t) where
   steps-had : {x : Update} → List·Memᴰ x (stepLines (g .steps) (t .from) (t .to)) → Has h x
   steps-had m =
       let o = order-of (λ p. true) (stepAt (t .from) (t .to)) (g .steps) m in
-      rw (o .3) (listed-step c (o .0) (o .1))
+      rw (o .3) (list-has-step (lists-of c) (o .1, refl, refl))
 
   -- The written updates are the history's, and no others.
   pub written-had : {x : Update} → List·Memᴰ x (writtenOf g t) → Has h x
@@ -178,22 +173,27 @@ module _ {h : History} {g : Graph} {t : Tables} (c : Consistent h g t) where
 
   pub had-written : (x : Update) → Has h x → List·Memᴰ x (writtenOf g t)
   unfolding writtenUpdates
-  had-written (Step u v) m =
-      let q = step-listed c u v m in
-      let e : stepAt (t .from) (t .to) (q .0) ≡ Step u v = rw (q .2, q .3) in
+  had-written (Step d) m =
+      let q = step-in-list (lists-of c) (d .from) (d .to) m in
+      let e : stepAt (t .from) (t .to) (q .0) ≡ Step d = rw (q .1 .1, q .1 .2) in
       Memᴰ·append-right (markedLines ForTerminal (g .n) (t .marks))
-      (Memᴰ·append-left (markedLines ForClose (g .n) (t .marks)) (rw e at (order-in (λ p. true) (stepAt (t .from) (t .to)) (g .steps) (q .0) (q .1) refl)))
+      (Memᴰ·append-left (markedLines ForClose (g .n) (t .marks)) (rw e at (order-in (λ p. true) (stepAt (t .from) (t .to)) (g .steps) (q .0) (q .1 .0) refl)))
   had-written (Terminal u) m =
       Memᴰ·append-left (stepLines (g .steps) (t .from) (t .to) ++ markedLines ForClose (g .n) (t .marks)) (had-marked ForTerminal u (c .inRange u (Terminal u, m, refl)) m)
   had-written (Close u) m =
       Memᴰ·append-right (markedLines ForTerminal (g .n) (t .marks))
       (Memᴰ·append-right (stepLines (g .steps) (t .from) (t .to)) (had-marked ForClose u (c .inRange u (Close u, m, refl)) m))
 
-  -- The steps are the history's, in their order.
-  pub same-sources : sources (following [] (writtenOf g t)) ≡ sources h
-  same-sources =
-      written-ends (g .n) (g .steps) (t .marks) (t .from) (t .to) sources-ends (t .from) (λ p. refl) (omega (arith, length-take (g .steps) (t .from), ap length (c .from), c .steps)) ∙ c .from
+  -- The first m entries of the tables' lists are the first m steps of the history.
+  firsts-take : (m : ℕ) → m ≤ g .steps → firsts m (t .from) (t .to) ≡ take m (listed h)
+  unfolding firsts
+  firsts-take zero k = refl
+  firsts-take (suc m) k =
+      let a = arcs-listed (lists-of c) (getD (t .from) m 0) m (getD (t .to) m 0) .0 (omega arith, refl, refl) in
+      rw (firsts-take m (omega arith), take-suc (listed h) m (edge 0 0) (a .0), a .1)
 
-  pub same-targets : targets (following [] (writtenOf g t)) ≡ targets h
-  same-targets =
-      written-ends (g .n) (g .steps) (t .marks) (t .from) (t .to) targets-ends (t .to) (λ p. refl) (omega (arith, length-take (g .steps) (t .to), ap length (c .to), c .steps, targets-length h)) ∙ c .to
+  -- The steps are the history's, in their order.
+  pub same-list : listed (following [] (writtenOf g t)) ≡ listed h
+  same-list =
+      written-listed (g .n) (g .steps) (t .marks) (t .from) (t .to) ∙ firsts-take (g .steps) (omega arith) ∙
+      ap (λ (i : ℕ). take i (listed h)) (c .steps) ∙ take-length (listed h)

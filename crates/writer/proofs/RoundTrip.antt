@@ -2,27 +2,27 @@
 -- Assumes nothing.
 use mathlib.Core.Path.{_≡_, refl, sym, _∙_, ap}
 use mathlib.Core.Logic.{inl, inr, ⊎-elim}
-use mathlib.Core.List.{List, [], List·Memᴰ, List·Memᴰ·not-nil}
+use mathlib.Core.List.{List, [], map, List·Memᴰ, List·Memᴰ·not-nil}
 use mathlib.Core.Option.{none}
 use Prim.Native.Nat.{ℕ, _-_, _≤_, _<_}
 use native.Mathlib.Omega.{arith}
 use lib.ListN.{length, getD, take, drop}
+use Rattle.gid.specs.declared.Edge.{Edge}
 use Rattle.gid.specs.declared.Update.{Update}
 use Rattle.gid.specs.declared.Update.the-variants.{Step, Terminal, Close}
-use Rattle.gid.specs.Histories.{History, IsNamed, following}
+use Rattle.gid.specs.Histories.{History, IsNamed, following, listed}
 use Rattle.gid.specs.Statuses.{status}
-use Rattle.gid.specs.Outcomes.{accepted, countSteps}
+use Rattle.gid.specs.Outcomes.{accepted}
 use Rattle.gid.proofs.Paths.{Inside}
 use Rattle.gid.proofs.Statuses.{status-unseen}
 use Rattle.tables.specs.declared.Graph.{Graph}
 use Rattle.tables.specs.Tables.{Tables}
 use Rattle.tables.specs.Fitting.{sources, targets, marksOf, Consistent, Fits}
 use Rattle.tables.proofs.Refusing.{Lent, lent-leaves}
-use Rattle.engine.proofs.Replay.{count-sources}
 use Rattle.record.specs.Text.{Within}
 use Rattle.record.specs.Items.{items}
 use Rattle.reader.specs.declared.ReadAnswer.{ReadAnswer}
-use Rattle.reader.specs.Opening.{readerStates, openRefusal}
+use Rattle.reader.specs.Opening.{readerStates, readerGraph, openRefusal}
 use Rattle.reader.specs.Replaying.{historyOf, firstRefusal}
 use Rattle.reader.specs.Reading.{Reads}
 use Rattle.writer.specs.declared.Written.{Written}
@@ -32,11 +32,11 @@ use Rattle.writer.proofs.Deciding.{ended}
 use Rattle.writer.proofs.Alike.{same-marks, same-status, no-marks}
 use Rattle.writer.proofs.Splits.{items-record}
 use Rattle.writer.proofs.Accepting.{StatesBelow, lines-accepted}
-use Rattle.writer.proofs.Members.{writtenOf, follows, followed, written-legal, written-had, had-written, same-sources, same-targets}
+use Rattle.writer.proofs.Members.{writtenOf, follows, followed, written-legal, written-had, had-written, same-list}
 
 -- values that a record can hold
 within : (n : ℕ) (x : Update) → n ≤ readerStates → StatesBelow n x → Within x
-within n (Step u v) few r = (omega (arith, r u (inl refl)), omega (arith, r v (inr refl)))
+within n (Step e) few r = (omega (arith, r (e .from) (inl refl)), omega (arith, r (e .to) (inr refl)))
 within n (Terminal u) few r = omega (arith, r u refl)
 within n (Close u) few r = omega (arith, r u refl)
 
@@ -54,11 +54,11 @@ module _ {h : History} {g : Graph} {t : Tables} (c : Consistent h g t) (l : Lent
   range : (x : Update) → List·Memᴰ x (writtenOf g t) → StatesBelow (g .n) x
   range x m s q = c .inRange s (x, written-had c m, q)
 
-  count : countSteps (following [] (writtenOf g t)) ≡ g .steps
-  count = count-sources (following [] (writtenOf g t)) ∙ ap length (same-sources c) ∙ sym (c .steps)
+  count : length (listed (following [] (writtenOf g t))) ≡ g .steps
+  count = ap length (same-list c) ∙ sym (c .steps)
 
   -- Every line is accepted: what is read is the written updates.
-  read : (firstRefusal (g .limit) [] (items bytes) ≡ none) × (historyOf (g .limit) bytes ≡ following [] (writtenOf g t))
+  read : (firstRefusal (readerGraph (g .limit)) [] (items bytes) ≡ none) × (historyOf (g .limit) bytes ≡ following [] (writtenOf g t))
   read =
       rw (items-record (g .n) (g .steps) (t .marks) (t .from) (t .to) (l .few-states) (omega (arith, l .room, l .low-limit)) (λ x m. within (g .n) x (l .few-states) (range x m)))
       (lines-accepted (g .limit) (l .some-limit) (l .low-limit) 2 [] (writtenOf g t) (written-legal (g .n) (g .steps) (t .marks) (t .from) (t .to)) (λ x m s q. omega (arith, range x m s q, l .few-states)) (omega (arith, count, l .room)))
@@ -67,7 +67,7 @@ module _ {h : History} {g : Graph} {t : Tables} (c : Consistent h g t) (l : Lent
   read-same {t₀} {t′} {r} o q =
       let s = q .stands o .fits in
       let e = read .1 in
-      let k : countSteps (historyOf (g .limit) bytes) ≡ g .steps = ap countSteps e ∙ count in
+      let k : length (listed (historyOf (g .limit) bytes)) ≡ g .steps = ap (λ (f : History). length (listed f)) e ∙ count in
       let marked : (u : ℕ) → u < readerStates → getD (t′ .marks) u 0 ≡ marksOf h u = λ u b. s .marks u b ∙ ap (λ (f : History). marksOf f u) e ∙ same-marks to of u in
       let judged : (u : ℕ) → u < readerStates → getD (t′ .status) u 0 ≡ status h u = λ u b. s .status u b ∙ ap (λ (f : History). status f u) e ∙ same-status to of u in
       let unnamed : (u : ℕ) → g .n ≤ u → IsNamed h u → ⊥ = λ u p m. let i = c .inRange u m in omega arith in
@@ -76,8 +76,8 @@ module _ {h : History} {g : Graph} {t : Tables} (c : Consistent h g t) (l : Lent
         tables =
             record {
               marks = λ u p. marked u (omega (arith, l .few-states)) ∙ sym (c .marks u p);
-              from = ap (λ (i : ℕ). take i (t′ .from)) (sym k) ∙ s .from ∙ ap sources e ∙ same-sources c ∙ sym (c .from);
-              to = ap (λ (i : ℕ). take i (t′ .to)) (sym k) ∙ s .to ∙ ap targets e ∙ same-targets c ∙ sym (c .to);
+              from = ap (λ (i : ℕ). take i (t′ .from)) (sym k) ∙ s .from ∙ ap sources e ∙ ap (map (λ (x : Edge). x .from)) (same-list c) ∙ sym (c .from);
+              to = ap (λ (i : ℕ). take i (t′ .to)) (sym k) ∙ s .to ∙ ap targets e ∙ ap (map (λ (x : Edge). x .to)) (same-list c) ∙ sym (c .to);
               status = λ u p. judged u (omega (arith, l .few-states)) ∙ sym (c .status u p);
               unseen = λ u p b. (judged u b ∙ status-unseen h u .1 (unnamed u p), marked u b ∙ no-marks h u (unnamed u p));
             };

@@ -45,7 +45,7 @@ unbroken-head : (kind from : ℕ) → 10 < kind → Unbroken (head kind from)
 unbroken-head kind from h = byte kind h (byte 32 (omega arith) (unbroken-append (unbroken-decimal from) (byte 32 (omega arith) none′)))
 
 unbroken-text : (x : Update) → Unbroken (text x)
-unbroken-text (Step u v) = unbroken-append (unbroken-head 69 u (omega arith)) (unbroken-decimal v)
+unbroken-text (Step e) = unbroken-append (unbroken-head 69 (e .from) (omega arith)) (unbroken-decimal (e .to))
 unbroken-text (Terminal u) = unbroken-append (unbroken-head 84 u (omega arith)) (byte 45 (omega arith) none′)
 unbroken-text (Close u) = unbroken-append (unbroken-head 67 u (omega arith)) (byte 45 (omega arith) none′)
 

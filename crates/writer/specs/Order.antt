@@ -4,8 +4,10 @@ use mathlib.Core.Bool.{Bool, true, cond}
 use mathlib.Core.List.{List, [], _∷_, _++_}
 use Prim.Native.Nat.{ℕ, zero, suc}
 use lib.ListN.{getD}
+use Rattle.gid.specs.declared.Edge.{Edge}
 use Rattle.gid.specs.declared.Update.{Update}
 use Rattle.gid.specs.declared.Update.the-variants.{Step, Terminal, Close}
+use Rattle.gid.specs.Updates.{edge}
 use Rattle.tables.specs.Marks.{hasTerminal, hasClosed}
 use Rattle.record.specs.Text.{names, text}
 use Rattle.writer.specs.declared.marking.Mark.{Mark}
@@ -34,8 +36,11 @@ abbrev pub markedLines : Mark → ℕ → List ℕ → List Update
 markedLines k n marks = inOrder n (isMarked k marks) (marking k)
 
 -- The first m listed steps, "in list order".
+abbrev pub edgeAt : List ℕ → List ℕ → ℕ → Edge
+edgeAt from to p = edge (getD from p 0) (getD to p 0)
+
 abbrev pub stepAt : List ℕ → List ℕ → ℕ → Update
-stepAt from to p = Step (getD from p 0) (getD to p 0)
+stepAt from to p = Step (edgeAt from to p)
 
 abbrev pub stepLines : ℕ → List ℕ → List ℕ → List Update
 stepLines m from to = inOrder m (λ p. true) (stepAt from to)

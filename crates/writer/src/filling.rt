@@ -2,12 +2,14 @@
 ghost use Prim.Native.Nat.{_≤_, _+_};
 ghost use lib.ListN.{length};
 ghost use Rattle.gid.specs.declared.Update.{Update};
+ghost use Rattle.gid.specs.Updates.{edge};
 ghost use Rattle.record.specs.Text.{WroteAt};
 ghost use Rattle.writer.specs.Order.{markedLines, stepLines, lineBytes, bytesOf, recordOf};
 ghost use Rattle.writer.specs.Sizing.{markLine};
 use crate::marking::Mark;
 use crate::marking::has;
 use crate::marking::update_of;
+use gid::Edge;
 use gid::Update;
 use record::put_bytes_at;
 use record::put_update;
@@ -46,15 +48,17 @@ fn put_marks(buf: &mut [u8], at: usize, mark: Mark, n: usize, marks: &[u8]) -> u
 }
 
 fn put_step(buf: &mut [u8], at: usize, from: u16, to: u16) -> usize
-    requires { ⌜ at + length (lineBytes (Update.Step from to)) ≤ length (now buf) ⌝ }
-    ensures { λ r. ⌜ WroteAt at (lineBytes (Update.Step from to)) (now (buf .entry)) (now (buf .exit)) r ⌝ }
+    requires { ⌜ at + length (lineBytes (Update.Step (edge from to))) ≤ length (now buf) ⌝ }
+    ensures { λ r. ⌜ WroteAt at (lineBytes (Update.Step (edge from to))) (now (buf .entry)) (now (buf .exit)) r ⌝ }
 {
     put_line(
         buf,
         at,
         Update::Step {
-            from: from as usize,
-            to: to as usize,
+            edge: Edge {
+                from: from as usize,
+                to: to as usize,
+            },
         },
     )
 }

@@ -3,6 +3,7 @@ ghost use mathlib.Core.Path.{_≡_};
 ghost use Prim.Native.Nat.{_≤_, _+_, _*_};
 ghost use lib.ListN.{length};
 ghost use Rattle.gid.specs.declared.Update.{Update};
+ghost use Rattle.gid.specs.Updates.{edge};
 ghost use Rattle.gid.specs.Refusals.{maxStates, maxSteps};
 ghost use Rattle.record.specs.Text.{decimal, maxValue, Within};
 ghost use Rattle.writer.specs.Order.{markedLines, stepLines, lineBytes, bytesOf, recordOf};
@@ -10,6 +11,7 @@ ghost use Rattle.writer.specs.Sizing.{markLine};
 use crate::marking::Mark;
 use crate::marking::has;
 use crate::marking::update_of;
+use gid::Edge;
 use gid::Update;
 
 // How many digits a value has.
@@ -38,7 +40,7 @@ fn line_size(update: Update) -> usize
     ensures { λ r. ⌜ r ≡ length (lineBytes update) ⌝ }
 {
     match update {
-        Update::Step { from, to } => digits(from) + digits(to) + 4,
+        Update::Step { edge } => digits(edge.from) + digits(edge.to) + 4,
         Update::Terminal { state } => digits(state) + 5,
         Update::Close { state } => digits(state) + 5,
     }
@@ -70,11 +72,13 @@ fn marks_size(mark: Mark, n: usize, marks: &[u8]) -> usize
 }
 
 fn step_size(from: u16, to: u16) -> usize
-    ensures { λ r. ⌜ r ≡ length (lineBytes (Update.Step from to)) ⌝ }
+    ensures { λ r. ⌜ r ≡ length (lineBytes (Update.Step (edge from to))) ⌝ }
 {
     line_size(Update::Step {
-        from: from as usize,
-        to: to as usize,
+        edge: Edge {
+            from: from as usize,
+            to: to as usize,
+        },
     })
 }
 

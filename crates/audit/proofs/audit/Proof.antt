@@ -5,22 +5,25 @@ use mathlib.Core.Path.{_≡_, sym, _∙_}
 use Prim.Native.Nat.{ℕ}
 use borrow.Author.Needs.{needs}
 use Rattle.tables.specs.Refused.{lentNumber}
-use Rattle.tables.specs.Tables.{Tables, tablesOf, enough, checkNeeds, lengths}
+use Rattle.tables.specs.Tables.{Tables, nodesOf, tablesOf, enough, checkNeeds, lengths}
 use Rattle.audit.proofs.Judging.{few, long-enough, says-yes, says-no, says-refused}
 use Rattle.audit.proofs.audit.Statement.{statement}
 use Rattle.audit.proofs.audit.Tie as tie
 
 -- The start, the tables as they came, and the tests 1 to 4.
 abbrev start : tie.After-lent → tie.Start
-start c = c .before .before .before .before .before .before .before .before .before .before .before .before .before
+start c = c .before .before .before .before .before .before .before .before .before .before .before .before .before .before
 
 abbrev tables : tie.After-lent → List ℕ → Tables
 tables c news =
     let a = start c .args in
     tablesOf (a .status .now) (a .marks .now) (a .from .now) (a .to .now) (a .successor .now) news (a .in-head .now) (a .out-head .now) (a .queue .now) (a .visited .now) (a .in-next .now) (a .out-next .now)
 
-lent : (c : tie.After-lent) (news : List ℕ) → lentNumber (start c .args .graph) (enough (checkNeeds (start c .args .graph .n) (start c .args .graph .limit) (lengths (tables c news)))) ≡ c .lent .result
-lent c news = sym (rw (c .before .enough-to-check .ensures) at (c .lent .ensures))
+lent : (c : tie.After-lent) (news : List ℕ) → lentNumber (start c .args .graph) (enough (checkNeeds (start c .args .graph .n) (nodesOf (start c .args .graph)) (start c .args .graph .limit) (lengths (tables c news)))) ≡ c .lent .result
+lent c news = sym (rw (c .before .enough-to-check .ensures, c .before .before .nodes .ensures) at (c .lent .ensures))
+
+nodes-requires : tie.Need-nodes-requires
+nodes-requires c κs = search needs
 
 enough-to-check-requires : tie.Need-enough-to-check-requires
 enough-to-check-requires c κs = search needs
@@ -70,6 +73,7 @@ pub audit-spec : {M : Type 1} → statement M
 audit-spec =
     tie.close
     (tie.spec
+    nodes-requires
     enough-to-check-requires
     lent-requires
     returns

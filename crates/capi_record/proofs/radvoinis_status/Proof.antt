@@ -1,5 +1,6 @@
 -- `radvoinis_status` meets its contract.
 -- Assumes nothing.
+use Rattle.tables.specs.Tables.{visitedLength}
 use mathlib.Core.Path.{_∙_, refl}
 use Rattle.query.proofs.Asking.{answer-opened}
 use borrow.Author.Needs.{needs}
@@ -46,6 +47,7 @@ status-after-requires : tie.Need-status-after-requires
 status-after-requires c κs = search needs
 
 returns : tie.Need-returns
+unfolding visitedLength
 returns c =
     c .before .before .before .before .before .before .before .before .before .before .before .before .status-after .ensures .answer ∙ answer-opened _ (c .before .before .before .before .before .before .before .before .before .before .before .before .before .before .before .before .before .before .before .before .before .before .before .before .before .before .args .bytes .now) (c .before .before .before .before .before .before .before .before .before .before .before .before .before .before .before .before .before .before .before .before .before .before .before .before .before .before .args .state) refl
 

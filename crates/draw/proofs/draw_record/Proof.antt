@@ -2,6 +2,7 @@
 -- Assumes nothing.
 use mathlib.Core.Path.{refl}
 use native.Mathlib.Omega.{arith}
+use Rattle.tables.specs.Tables.{visitedLength}
 use borrow.Author.Needs.{needs}
 use Rattle.draw.proofs.draw_record.Statement.{statement}
 use Rattle.draw.proofs.draw_record.Tie as tie
@@ -49,6 +50,7 @@ slice-aggregate-draw-input-14 : tie.Need-slice-aggregate-draw-input-14
 slice-aggregate-draw-input-14 c = search needs
 
 draw-input-requires : tie.Need-draw-input-requires
+unfolding visitedLength
 draw-input-requires c κs = (omega arith, refl)
 
 returns : tie.Need-returns

@@ -2,6 +2,7 @@
 -- Assumes nothing.
 use mathlib.Core.Path.{refl}
 use native.Mathlib.Omega.{arith}
+use Rattle.tables.specs.Tables.{visitedLength}
 use borrow.Author.Needs.{needs}
 use Rattle.listing.proofs.list_record.Statement.{statement}
 use Rattle.listing.proofs.list_record.Tie as tie
@@ -49,6 +50,7 @@ slice-aggregate-list-input-14 : tie.Need-slice-aggregate-list-input-14
 slice-aggregate-list-input-14 c = search needs
 
 list-input-requires : tie.Need-list-input-requires
+unfolding visitedLength
 list-input-requires c κs = (omega arith, refl)
 
 returns : tie.Need-returns

@@ -5,6 +5,7 @@ use mathlib.Core.Path.{sym, _∙_}
 use Prim.Native.Nat.{_-_}
 use native.Mathlib.Omega.{arith}
 use borrow.Author.Count.{below-more}
+use Rattle.tables.proofs.Marking.{has-mark}
 use Rattle.audit.specs.Facts.{All, covered}
 use Rattle.audit.proofs.Looping.{stops, passes}
 use Rattle.audit.proofs.claims.all_covered.Statement.{statement}
@@ -21,7 +22,9 @@ loop-holds : tie.Need-loop-holds Inv-loop μ-loop
 loop-holds c = λ i h. absurd (omega arith)
 
 is-covered-requires : tie.Need-is-covered-requires Inv-loop μ-loop
-is-covered-requires c κs = omega arith
+is-covered-requires c κs =
+    let a = c .before .before .before .before .args in
+    omega (arith, has-mark (a .n) (a .visited .now) (c .before .loop .s) (c .loop-test .taken) (c .before .before .before .before .pre .1))
 
 add-s : tie.Need-add-s Inv-loop μ-loop
 add-s c = omega arith

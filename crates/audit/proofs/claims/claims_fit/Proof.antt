@@ -15,7 +15,7 @@ claimed-requires-2 c κs =
     let atStart = atClaimed .before .before .before .before .before .before .before .before .before .before .before in
     let p = atStart .pre in
     let k = atClaimed .claimed .kept in
-    ((p .0 .0, atClaimed .claimed .ensures .none), (p .1 .0, (p .1 .1 .0, p .1 .1 .1, p .1 .1 .2, omega (arith, p .1 .1 .3, k), omega (arith, p .1 .1 .4, k))))
+    ((p .0 .0, p .0 .1, atClaimed .claimed .ensures .none), (p .1 .0, (p .1 .1 .0, p .1 .1 .1, p .1 .1 .2, omega (arith, p .1 .1 .3, k), omega (arith, p .1 .1 .4, k))))
 
 same-length : tie.Need-same-length
 same-length c = search needs

@@ -21,7 +21,7 @@ list-fits-requires c κs =
     let atStart = c .before .before .before .before .before .before .before .before .before .before .before .before .before .before .before .before .before in
     let a = atStart .args in
     let p = atStart .pre .1 in
-    ((atStart .pre .0 .1, p .to, p .inHead, p .inNext, p .queue), ends-below (a .n) (a .steps) (a .status .now) (a .marks .now) (a .from .now) (a .to .now) (c .before .before .steps-fit .ensures .0 (c .before .if2 .taken)) .1)
+    ((atStart .pre .0 .2, p .to, p .inHead, p .inNext, p .queue), ends-below (a .n) (a .steps) (a .status .now) (a .marks .now) (a .from .now) (a .to .now) (c .before .before .steps-fit .ensures .0 (c .before .if2 .taken)) .1)
 
 list-fits-requires-2 : tie.Need-list-fits-requires-2
 list-fits-requires-2 c κs =
@@ -31,7 +31,7 @@ list-fits-requires-2 c κs =
     let atStart = atStepsFit .before .before .before .before .before .before .before .before .before .before .before .before .before .before .before in
     let a = atStart .args in
     let p = atStart .pre .1 in
-    ((atStart .pre .0 .1, p .from, p .outHead, p .outNext, omega (arith, p .queue, atListFits .list-fits .ensures .kept .size)), ends-below (a .n) (a .steps) (a .status .now) (a .marks .now) (a .from .now) (a .to .now) (atStepsFit .steps-fit .ensures .0 (atIf2 .if2 .taken)) .0)
+    ((atStart .pre .0 .2, p .from, p .outHead, p .outNext, omega (arith, p .queue, atListFits .list-fits .ensures .kept .size)), ends-below (a .n) (a .steps) (a .status .now) (a .marks .now) (a .from .now) (a .to .now) (atStepsFit .steps-fit .ensures .0 (atIf2 .if2 .taken)) .0)
 
 claims-fit-requires : tie.Need-claims-fit-requires
 claims-fit-requires c κs =
@@ -43,7 +43,7 @@ claims-fit-requires c κs =
     let a = atStart .args in
     let p = atStart .pre .1 in
     let none = none-visited (a .n) (a .steps) (a .status .now) (a .marks .now) (a .from .now) (a .successor .now) (a .in-head .now) (a .out-head .now) (a .visited .now) (atStatesFit .states-fit .ensures .0 (atIf1 .if1 .taken)) in
-    ((atStart .pre .0 .0, none), (record { few = atStart .pre .0 .1; heads = p .inHead; nexts = p .inNext; ends′ = p .from }, (p .status, p .marks, p .successor, omega (arith, p .queue, atListFits .list-fits .ensures .kept .size, atListFits2 .list-fits2 .ensures .kept .size), p .visited)))
+    ((atStart .pre .0 .0, atStart .pre .0 .1, none), (record { few = atStart .pre .0 .2; heads = p .inHead; nexts = p .inNext; ends′ = p .from }, (p .status, p .marks, p .successor, omega (arith, p .queue, atListFits .list-fits .ensures .kept .size, atListFits2 .list-fits2 .ensures .kept .size), p .visited)))
 
 same-length : tie.Need-same-length
 same-length c = search needs

@@ -5,6 +5,7 @@ use mathlib.Core.Path.{sym, _∙_}
 use Prim.Native.Nat.{_-_}
 use native.Mathlib.Omega.{arith}
 use borrow.Author.Count.{below-more}
+use Rattle.tables.proofs.Marking.{has-mark}
 use Rattle.audit.specs.Facts.{All, stateFits}
 use Rattle.audit.proofs.Looping.{stops, passes}
 use Rattle.audit.proofs.states.states_fit.Statement.{statement}
@@ -23,7 +24,8 @@ loop-holds c = λ i h. absurd (omega arith)
 state-fits-requires : tie.Need-state-fits-requires Inv-loop μ-loop
 state-fits-requires c κs =
     let atStart = c .before .before .before .before .before .before .before .before .before in
-    omega (arith, atStart .pre)
+    let a = atStart .args in
+    omega (arith, atStart .pre, has-mark (a .n) (a .visited .now) (c .before .loop .s) (c .loop-test .taken) (atStart .pre .6))
 
 add-s : tie.Need-add-s Inv-loop μ-loop
 add-s c = omega arith

@@ -1,28 +1,42 @@
--- `Engine::update` keeps its promise: a refusal by either half of the tests, or an update that is done.
+-- `Engine::update` keeps its promise: a refusal by either half of the tests, or an update that is listed, marked and judged.
 -- Assumes nothing.
-use mathlib.Core.Path.{_≡_, refl, sym, _∙_}
+use mathlib.Core.Path.{_≡_, refl, sym, ap, _∙_}
 use native.Mathlib.Omega.{arith}
 use borrow.Author.Needs.{needs}
 use Rattle.tables.specs.declared.Graph.{Graph}
-use Rattle.tables.specs.Tables.{Tables, tablesOf, enough, needs as needed, lengths}
-use Rattle.tables.specs.Refused.{lentNumber, sentNumber}
+use Rattle.tables.specs.Tables.{Tables, tablesOf, longEnough}
+use Rattle.tables.specs.Refused.{isFull, lentNumber, sentNumber}
 use Rattle.engine.specs.Done.{Room}
-use Rattle.engine.proofs.Promising.{room-of, sendable-of, lent-kept, sent-kept, done-kept}
+use Rattle.engine.specs.Promise.{Sendable}
+use Rattle.engine.proofs.Preparing.{sendable-range}
+use Rattle.engine.proofs.Promising.{room-of, sendable-of, listable, markable, walkable, lent-kept, sent-kept, done-of, done-kept}
 use Rattle.engine.proofs.Engine.update.Statement.{statement}
 use Rattle.engine.proofs.Engine.update.Tie as tie
 
 -- The places on the way back to the start.
 abbrev start : tie.After-lent → tie.Start
-start c = c .before .before .before .before .before .before .before .before .before .before .before .before .before .before .before
+start c = c .before .before .before .before .before .before .before .before .before .before .before .before .before .before .before .before
 
-abbrev at-if1 : tie.After-sent → tie.Else1
-at-if1 c = c .before .before .before
+abbrev at-lent : tie.Else2 → tie.After-lent
+at-lent c = c .before .before .before .before .before .before
 
-abbrev at-if2 : tie.After-accept-arg12 → tie.Else2
-at-if2 c = c .before .before .before .before .before .before .before .before .before .before .before .before
+abbrev at-sent : tie.After-list → tie.Else2
+at-sent c = c .before .before .before .before .before .before .before
 
-abbrev at-accept : tie.After-slice-known24 → tie.After-accept
-at-accept c = c .before .before .before .before .before .before .before .before .before .before .before .before .before .before .before .before .before .before .before .before .before .before .before .before
+abbrev at-listed : tie.After-mark → tie.After-list
+at-listed c = c .before .before .before .before .before .before .before .before .before .before .before .before .before .before .before
+
+abbrev at-marked : tie.After-after → tie.After-mark
+at-marked c = c .before .before .before .before .before
+
+abbrev at-after : tie.After-judge → tie.After-after
+at-after c = c .before .before .before .before .before .before .before .before .before .before .before .before
+
+abbrev at-mark : tie.After-judge → tie.After-mark
+at-mark c = at-marked (at-after c)
+
+abbrev at-list : tie.After-judge → tie.After-list
+at-list c = at-listed (at-mark c)
 
 -- The state value and the tables as they came.
 abbrev graph : tie.After-lent → Graph
@@ -34,14 +48,29 @@ tables c =
     tablesOf (a .status .now) (a .marks .now) (a .from .now) (a .to .now) (a .successor .now) (a .news .now) (a .in-head .now) (a .out-head .now) (a .queue .now) (a .visited .now) (a .in-next .now) (a .out-next .now)
 
 -- The tests 1 to 4 by their number, and where they pass.
-lent : (c : tie.After-lent) → lentNumber (graph c) (enough (needed (graph c .n) (graph c .limit) (lengths (tables c)))) ≡ c .lent .result
-lent c = sym (rw (c .before .enough .ensures) at (c .lent .ensures))
+lent : (c : tie.After-lent) → lentNumber (graph c) (longEnough (graph c) (tables c)) ≡ c .lent .result
+lent c = sym (rw (c .before .enough .ensures, c .before .before .nodes .ensures) at (c .lent .ensures))
 
-passed : (c : tie.Else1) → lentNumber (graph (c .before)) (enough (needed (graph (c .before) .n) (graph (c .before) .limit) (lengths (tables (c .before))))) ≡ 0
+passed : (c : tie.Else1) → lentNumber (graph (c .before)) (longEnough (graph (c .before)) (tables (c .before))) ≡ 0
 passed c = lent (c .before) ∙ c .if1 .left
 
-room : (c : tie.Else1) → Room (graph (c .before) .n) (graph (c .before) .limit) (graph (c .before) .steps) (tables (c .before))
+room : (c : tie.Else1) → let l = c .before in Room (graph l .n) (graph l .n) (graph l .limit) (graph l .steps) (tables l)
 room c = room-of (graph (c .before)) (tables (c .before)) (passed c)
+
+-- The tests 5 to 9.
+sent-is : (c : tie.After-sent) → let l = c .before .before .before .before .before in sentNumber (graph l) (isFull (graph l)) (tables l .marks) (tables l .status) (start l .args .update) ≡ c .sent .result
+sent-is c = sym (rw (c .before .before .before .is-full .ensures) at (c .sent .ensures))
+
+sent : (c : tie.Else2) → let l = at-lent c in sentNumber (graph l) (isFull (graph l)) (tables l .marks) (tables l .status) (start l .args .update) ≡ 0
+sent c = sent-is (c .before) ∙ c .if2 .left
+
+sendable : (c : tie.Else2) → let l = at-lent c in Sendable (graph l .n) (graph l .limit) (graph l .steps) (start l .args .update)
+sendable c =
+    let l = at-lent c in
+    sendable-of (graph l) (tables l .marks) (tables l .status) (start l .args .update) (room (c .before .before .before .before .before) .steps) (sent c) .0
+
+nodes-requires : tie.Need-nodes-requires
+nodes-requires c κs = search needs
 
 enough-requires : tie.Need-enough-requires
 enough-requires c κs = search needs
@@ -54,8 +83,11 @@ returns c =
     let l = c .before in
     lent-kept (graph l) (start l .args .update) (tables l) (l .lent .result) (lent l) (c .if1 .taken)
 
+is-full-requires : tie.Need-is-full-requires
+is-full-requires c κs = search needs
+
 sent-requires : tie.Need-sent-requires
-sent-requires c κs = let r = room (c .before .before) in (r .long .marks, r .long .status)
+sent-requires c κs = let r = room (c .before .before .before) in (r .long .marks, r .long .status)
 
 same-length : tie.Need-same-length
 same-length c = refl
@@ -65,81 +97,107 @@ same-length-2 c = refl
 
 returns-2 : tie.Need-returns-2
 returns-2 c =
-    let e = at-if1 (c .before) in
+    let e = c .before .before .before .before .before in
     let l = e .before in
-    sent-kept (graph l) (start l .args .update) (tables l) (passed e) (c .before .sent .result) (sym (c .before .sent .ensures)) (c .if2 .taken)
+    sent-kept (graph l) (start l .args .update) (tables l) (passed e) (c .before .sent .result) (sent-is (c .before)) (c .if2 .taken)
 
--- the tests 5 to 9, where they pass
-sent : (c : tie.Else2) → let l = at-if1 (c .before) .before in sentNumber (graph l) (tables l .marks) (tables l .status) (start l .args .update) ≡ 0
-sent c = sym (c .before .sent .ensures) ∙ c .if2 .left
+list-requires : tie.Need-list-requires
+list-requires c κs = let d = c .before .before .before .before .before .before in listable (room (d .before .before .before .before .before)) (start (at-lent d) .args .update) (sendable d)
 
-accept-requires : tie.Need-accept-requires
-accept-requires c κs =
-    let d = at-if2 c in
-    let e = at-if1 (d .before) in
-    let l = e .before in
-    (room e, sendable-of (graph l) (tables l .marks) (tables l .status) (start l .args .update) (room e .steps) (sent d) .0)
+mark-requires : tie.Need-mark-requires
+mark-requires c κs = let d = at-sent (c .before .before .before .before .before .before .before .before .before .before .before .before .before .before) in markable (room (d .before .before .before .before .before)) (start (at-lent d) .args .update) (sendable d)
 
 after-requires : tie.Need-after-requires
-after-requires c κs = let r = room (at-if1 (at-if2 (at-accept c .before) .before)) in omega (arith, r .steps, r .bound)
+after-requires c κs = let r = room (at-sent (at-listed (c .before .before .before .before)) .before .before .before .before .before) in omega (arith, r .steps, r .bound)
+
+judge-requires : tie.Need-judge-requires
+judge-requires c κs =
+    let f = c .before .before .before .before .before .before .before .before .before .before .before in
+    let k = at-marked f in
+    let i = at-listed k in
+    let d = at-sent i in
+    let l = at-lent d in
+    let a = start l .args in
+    let r = room (d .before .before .before .before .before) in
+    let walk = walkable r (a .update) (sendable d) in
+    let w = i .list .kept in
+    let q = ap (λ (e : Graph). e .steps) (f .after .ensures) in (
+      (sendable-range (graph l .n) (graph l .limit) (graph l .steps) (a .update) (sendable d), r .states),
+      (
+        (
+          walk (a .from .now) (a .in-head .now) (a .in-next .now) (i .list .last .1 .1 .0) (i .list .last .1 .1 .1 .1 .0) (i .list .last .1 .1 .1 .1 .1 .1 .0) (r .long .from) (r .long .inHead) (r .long .inNext) (w .1 .1 .0) (w .1 .1 .1 .1 .0) (w .1 .1 .1 .1 .1 .1 .0) (f .after .result .steps) q,
+          walk (a .to .now) (a .out-head .now) (a .out-next .now) (i .list .last .1 .1 .1 .0) (i .list .last .1 .1 .1 .1 .1 .0) (i .list .last .1 .1 .1 .1 .1 .1 .1 .0) (r .long .to) (r .long .outHead) (r .long .outNext) (w .1 .1 .1 .0) (w .1 .1 .1 .1 .1 .0) (w .1 .1 .1 .1 .1 .1 .1 .0) (f .after .result .steps) q,
+        ),
+        (rw (k .mark .kept .1 .0) (r .long .status), r .long .successor, r .news, r .long .queue, r .long .visited),
+      ),
+    )
 
 same-length-3 : tie.Need-same-length-3
-same-length-3 c = at-accept (c .before) .accept .kept .1 .1 .1 .1 .0
+same-length-3 c = c .before .before .before .before .before .before .before .before .before .before .judge .kept .1 .1 .1 .0 ∙ at-mark (c .before .before .before .before .before .before .before .before .before .before) .mark .kept .1 .0
 
 same-length-4 : tie.Need-same-length-4
-same-length-4 c = at-accept (c .before) .accept .kept .1 .1 .1 .1 .1 .0
+same-length-4 c = at-mark (c .before .before .before .before .before .before .before .before .before .before) .mark .kept .1 .1 .0
 
 same-length-5 : tie.Need-same-length-5
-same-length-5 c = at-accept (c .before) .accept .kept .1 .1 .1 .1 .1 .1 .0
+same-length-5 c = at-list (c .before .before .before .before .before .before .before .before .before .before) .list .kept .1 .1 .0
 
 same-length-6 : tie.Need-same-length-6
-same-length-6 c = at-accept (c .before) .accept .kept .1 .1 .1 .1 .1 .1 .1 .0
+same-length-6 c = at-list (c .before .before .before .before .before .before .before .before .before .before) .list .kept .1 .1 .1 .0
 
 same-length-7 : tie.Need-same-length-7
-same-length-7 c = at-accept (c .before) .accept .kept .1 .1 .1 .1 .1 .1 .1 .1 .0
+same-length-7 c = c .before .before .before .before .before .before .before .before .before .before .judge .kept .1 .1 .1 .1 .1 .1 .0
 
 same-length-8 : tie.Need-same-length-8
-same-length-8 c = at-accept (c .before) .accept .kept .1 .1 .1 .1 .1 .1 .1 .1 .1 .0
+same-length-8 c = c .before .before .before .before .before .before .before .before .before .before .judge .kept .1 .1 .1 .1 .1 .1 .1 .0
 
 same-length-9 : tie.Need-same-length-9
-same-length-9 c = at-accept (c .before) .accept .kept .1 .1 .1 .1 .1 .1 .1 .1 .1 .1 .0
+same-length-9 c = at-list (c .before .before .before .before .before .before .before .before .before .before) .list .kept .1 .1 .1 .1 .0
 
 same-length-10 : tie.Need-same-length-10
-same-length-10 c = at-accept (c .before) .accept .kept .1 .1 .1 .1 .1 .1 .1 .1 .1 .1 .1 .0
+same-length-10 c = at-list (c .before .before .before .before .before .before .before .before .before .before) .list .kept .1 .1 .1 .1 .1 .0
 
 same-length-11 : tie.Need-same-length-11
-same-length-11 c = at-accept (c .before) .accept .kept .1 .1 .1 .1 .1 .1 .1 .1 .1 .1 .1 .1 .0
+same-length-11 c = c .before .before .before .before .before .before .before .before .before .before .judge .kept .1 .1 .1 .1 .1 .1 .1 .1 .1 .1 .0
 
 same-length-12 : tie.Need-same-length-12
-same-length-12 c = at-accept (c .before) .accept .kept .1 .1 .1 .1 .1 .1 .1 .1 .1 .1 .1 .1 .1 .0
+same-length-12 c = c .before .before .before .before .before .before .before .before .before .before .judge .kept .1 .1 .1 .1 .1 .1 .1 .1 .1 .1 .1 .0
 
 same-length-13 : tie.Need-same-length-13
-same-length-13 c = at-accept (c .before) .accept .kept .1 .1 .1 .1 .1 .1 .1 .1 .1 .1 .1 .1 .1 .1 .0
+same-length-13 c = at-list (c .before .before .before .before .before .before .before .before .before .before) .list .kept .1 .1 .1 .1 .1 .1 .0
 
 same-length-14 : tie.Need-same-length-14
-same-length-14 c = at-accept (c .before) .accept .kept .1 .1 .1 .1 .1 .1 .1 .1 .1 .1 .1 .1 .1 .1 .1 .0
+same-length-14 c = at-list (c .before .before .before .before .before .before .before .before .before .before) .list .kept .1 .1 .1 .1 .1 .1 .1 .0
 
 returns-3 : tie.Need-returns-3
 returns-3 c =
-    let a = at-accept (c .before) in
-    let d = at-if2 (a .before) in
-    let e = at-if1 (d .before) in
-    let l = e .before in
-    rw (c .after .ensures) (done-kept (graph l) (start l .args .update) (tables l) (passed e) (sent d) (a .accept .ensures))
+    let j = c .before .before .before .before .before .before .before .before .before .before in
+    let f = at-after j in
+    let k = at-marked f in
+    let i = at-listed k in
+    let d = at-sent i in
+    let l = at-lent d in
+    let a = start l .args in
+    rw (f .after .ensures)
+    (done-kept (graph l) (a .update) (tables l) (passed (d .before .before .before .before .before)) (sent d)
+    (done-of (tables l) _ (a .update) (k .mark .ensures .1) (i .list .ensures) (ap (λ (e : Graph). e .steps) (f .after .ensures)) (k .mark .ensures .0) (j .judge .ensures)))
 
 pub update-spec : {M : Type 1} → statement M
 update-spec =
     tie.close
     (tie.spec
+    nodes-requires
     enough-requires
     lent-requires
     returns
+    is-full-requires
     sent-requires
     same-length
     same-length-2
     returns-2
-    accept-requires
+    list-requires
+    mark-requires
     after-requires
+    judge-requires
     same-length-3
     same-length-4
     same-length-5

@@ -1,6 +1,5 @@
 -- `begin` opens the tables.
 -- Assumes nothing.
-use Rattle.picture.proofs.Tasks.{begins-refused, begins-ready}
 use borrow.Author.Needs.{needs}
 use Rattle.picture.proofs.drawer.begin.Statement.{statement}
 use Rattle.picture.proofs.drawer.begin.Tie as tie
@@ -8,17 +7,8 @@ use Rattle.picture.proofs.drawer.begin.Tie as tie
 open-requires : tie.Need-open-requires
 open-requires c κs = search needs
 
-enum-told : tie.Need-enum-told
-enum-told c = search needs
-
-start-requires : tie.Need-start-requires
-start-requires c κs = search needs
-
-enum-known-opened : tie.Need-enum-known-opened
-enum-known-opened c = search needs
-
-start-requires-2 : tie.Need-start-requires-2
-start-requires-2 c κs = search needs
+begun-requires : tie.Need-begun-requires
+begun-requires c κs = search needs
 
 same-length : tie.Need-same-length
 same-length c = search needs
@@ -57,56 +47,14 @@ same-length-12 : tie.Need-same-length-12
 same-length-12 c = search needs
 
 returns : tie.Need-returns
-returns c = begins-refused (c .before .before .before .before .before .before .before .before .before .before .before .before .before .before .before .before .before .before .before .before .before .before .before .before .before .before .before .«open» .ensures) (c .before .enum-told .given .1) (c .start .ensures)
-
-same-length-13 : tie.Need-same-length-13
-same-length-13 c = search needs
-
-same-length-14 : tie.Need-same-length-14
-same-length-14 c = search needs
-
-same-length-15 : tie.Need-same-length-15
-same-length-15 c = search needs
-
-same-length-16 : tie.Need-same-length-16
-same-length-16 c = search needs
-
-same-length-17 : tie.Need-same-length-17
-same-length-17 c = search needs
-
-same-length-18 : tie.Need-same-length-18
-same-length-18 c = search needs
-
-same-length-19 : tie.Need-same-length-19
-same-length-19 c = search needs
-
-same-length-20 : tie.Need-same-length-20
-same-length-20 c = search needs
-
-same-length-21 : tie.Need-same-length-21
-same-length-21 c = search needs
-
-same-length-22 : tie.Need-same-length-22
-same-length-22 c = search needs
-
-same-length-23 : tie.Need-same-length-23
-same-length-23 c = search needs
-
-same-length-24 : tie.Need-same-length-24
-same-length-24 c = search needs
-
-returns-2 : tie.Need-returns-2
-returns-2 c = begins-ready (c .before .before .before .before .before .before .before .before .before .before .before .before .before .before .before .before .before .before .before .before .before .before .before .before .before .before .before .before .«open» .ensures) (c .before .before .opened .given .1) (c .start2 .ensures)
+returns c = c .begun .ensures _ _ (c .before .before .before .before .before .before .before .before .before .before .before .before .before .before .before .before .before .before .before .before .before .before .before .before .before .«open» .ensures)
 
 pub begin-spec : {M : Type 1} → statement M
 begin-spec =
     tie.close
     (tie.spec
     open-requires
-    enum-told
-    start-requires
-    enum-known-opened
-    start-requires-2
+    begun-requires
     same-length
     same-length-2
     same-length-3
@@ -119,17 +67,4 @@ begin-spec =
     same-length-10
     same-length-11
     same-length-12
-    returns
-    same-length-13
-    same-length-14
-    same-length-15
-    same-length-16
-    same-length-17
-    same-length-18
-    same-length-19
-    same-length-20
-    same-length-21
-    same-length-22
-    same-length-23
-    same-length-24
-    returns-2)
+    returns)

@@ -4,6 +4,7 @@ use native.Mathlib.Omega.{arith}
 use lib.ListN.{getD}
 use borrow.Author.Needs.{needs}
 use Rattle.tables.specs.Marks.{hasTerminal}
+use Rattle.reader.specs.Opening.{readerStates}
 use Rattle.picture.proofs.Drawing.{drawn}
 use Rattle.picture.proofs.text.put_picture.Statement.{statement}
 use Rattle.picture.proofs.text.put_picture.Tie as tie
@@ -44,7 +45,7 @@ returns c =
     let two = c .before .before .before .before .before .before .before .before .before .before .before .put-states in
     let three = c .before .before .before .before .before .before .before .put-steps in
     let four = c .before .before .put-bytes-at2 in (
-      drawn (a .m) (λ s. getD (a .status .now) s 0) (λ s. hasTerminal (getD (a .marks .now) s 0)) (λ i. getD (a .from .now) i 0) (λ i. getD (a .to .now) i 0) (λ s. getD (a .successor .now) s 65535) (one .ensures) (two .ensures .0) (three .ensures .0) (four .ensures) (omega (arith, p .0, p .3, one .ensures .after, two .ensures .1, three .ensures .1, four .ensures .after)),
+      drawn readerStates (a .m) (λ s. getD (a .status .now) s 0) (λ s. hasTerminal (getD (a .marks .now) s 0)) (λ i. getD (a .from .now) i 0) (λ i. getD (a .to .now) i 0) (λ s. getD (a .successor .now) s 65535) (one .ensures) (two .ensures .0) (three .ensures .0) (four .ensures) (omega (arith, p .0, p .3, one .ensures .after, two .ensures .1, three .ensures .1, four .ensures .after)),
       omega (arith, p .0, one .ensures .after, two .ensures .1, three .ensures .1, four .ensures .after),
     )
 

@@ -1,6 +1,6 @@
 -- `escape_within` answers a step out of u. The invariant: the walk stands at a step out of u. The measure is its place.
 -- Assumes nothing.
-use mathlib.Core.Path.{refl}
+use mathlib.Core.Path.{refl, sym}
 use mathlib.Core.Logic.{inl, inr}
 use Prim.Native.Nat.{_-_}
 use native.Mathlib.Omega.{arith}
@@ -32,7 +32,7 @@ meets-open-requires c κs = omega arith
 returns : tie.Need-returns Inv-loop μ-loop
 returns c =
     let t = c .before .before in
-    inr (t .before .before .loop .p - 1, omega arith, walk-here (t .before .before .loop .inv) (t .before .loop-test .taken), rw (← t .target .ensures) (c .before .meets-open .ensures (c .if1 .taken)))
+    inr (t .before .before .loop .p - 1, t .target .result, omega arith, (walk-here (t .before .before .loop .inv) (t .before .loop-test .taken), sym (t .target .ensures)), c .before .meets-open .ensures (c .if1 .taken))
 
 after-requires : tie.Need-after-requires Inv-loop μ-loop
 after-requires c κs = omega arith

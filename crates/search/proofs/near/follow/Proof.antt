@@ -1,6 +1,6 @@
 -- `follow` answers where the successor of s leads.
 -- Assumes nothing.
-use mathlib.Core.Path.{_≡_, ap, _∙_}
+use mathlib.Core.Path.{_≡_, sym, ap, _∙_}
 use mathlib.Core.Logic.{inl, inr}
 use Prim.Native.Nat.{ℕ}
 use native.Mathlib.Omega.{arith}
@@ -35,7 +35,7 @@ returns-3 c =
     let w = c .before .before in
     let a = w .before .before .before .before .before .before .before .args in
     let e : w .wide .result ≡ getD (a .successor .now) (a .s) 0 = w .wide .ensures in
-    inr ((omega arith, omega arith, omega arith), c .target .ensures ∙ ap (λ (p : ℕ). getD (a .to .now) p 0) e)
+    inr ((omega arith, omega arith), (omega arith, sym (c .target .ensures ∙ ap (λ (p : ℕ). getD (a .to .now) p 0) e)))
 
 pub follow-spec : {M : Type 1} → statement M
 follow-spec =

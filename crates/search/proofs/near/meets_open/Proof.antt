@@ -2,15 +2,14 @@
 -- Assumes nothing.
 use mathlib.Core.Bool.{false≢true}
 use native.Mathlib.Omega.{arith}
-use Rattle.search.specs.Escaping.{Near}
-use Rattle.search.specs.Rescuing.{byTarget}
+use Rattle.search.specs.Escaping.{toward, Near}
 use Rattle.search.proofs.Escaping.{near-here, near-before}
 use Rattle.search.proofs.near.meets_open.Statement.{statement}
 use Rattle.search.proofs.near.meets_open.Tie as tie
 
 abbrev Inv-loop : tie.InvT-loop
 Inv-loop most n steps start to status successor s₀ left₀ s left =
-    Near (byTarget n steps to) status successor s → Near (byTarget n steps to) status successor start
+    Near n (toward steps to) status successor s → Near n (toward steps to) status successor start
 
 abbrev μ-loop : tie.MeasureT-loop
 μ-loop most n steps start to status successor s₀ left₀ s left = left
@@ -31,7 +30,7 @@ returns-2 : tie.Need-returns-2 Inv-loop μ-loop
 returns-2 c =
     let l = c .before .before .before .before in
     let a = l .before .before .before .before .args in
-    λ e. l .loop .inv (near-here (byTarget (a .n) (a .steps) (a .to .now)) (a .status .now) (a .successor .now) (l .loop .s) (omega arith) (c .if2 .taken))
+    λ e. l .loop .inv (near-here (a .n) (toward (a .steps) (a .to .now)) (a .status .now) (a .successor .now) (l .loop .s) (omega arith) (c .if2 .taken))
 
 follow-requires : tie.Need-follow-requires Inv-loop μ-loop
 follow-requires c κs = omega arith
@@ -46,7 +45,7 @@ loop-again : tie.Need-loop-again Inv-loop μ-loop
 loop-again c =
     let l = c .before .before .before .before .before in
     let a = l .before .before .before .before .args in
-    λ d. l .loop .inv (near-before (byTarget (a .n) (a .steps) (a .to .now)) (a .status .now) (a .successor .now) (l .loop .s) (c .follow .result) (c .follow .ensures) d)
+    λ d. l .loop .inv (near-before (a .n) (toward (a .steps) (a .to .now)) (a .status .now) (a .successor .now) (l .loop .s) (c .follow .result) (c .follow .ensures) d)
 
 returns-3 : tie.Need-returns-3 Inv-loop μ-loop
 returns-3 c = λ e. absurd (false≢true e)

@@ -1,11 +1,11 @@
--- `escape` releases a visited state that has a way out, and no other.
+-- `escape` releases a visited node that has a way out, and no other.
 -- Assumes nothing.
 use mathlib.Core.Path.{refl, sym, _∙_}
 use mathlib.Core.Bool.{false≢true}
 use Prim.Native.Nat.{_-_}
 use native.Mathlib.Omega.{arith}
-use Rattle.search.specs.Spreading.{arcs}
-use Rattle.search.specs.Rescuing.{stays, leaves}
+use Rattle.tables.proofs.Marking.{has-mark}
+use Rattle.search.specs.Releasing.{stays, leaves}
 use Rattle.search.proofs.Walking.{linked-inside}
 use Rattle.search.proofs.Releasing.{room-left, no-way, a-way}
 use borrow.Author.Needs.{needs}
@@ -13,7 +13,7 @@ use Rattle.search.proofs.rescue.escape.Statement.{statement}
 use Rattle.search.proofs.rescue.escape.Tie as tie
 
 is-visited-requires : tie.Need-is-visited-requires
-is-visited-requires c κs = search needs
+is-visited-requires c κs = let s = c .before .before .before .before .before .before .before .before in has-mark (s .args .n) (s .args .visited .now) (s .args .x) (s .pre .0 .0) (s .pre .1 .1 .3)
 
 way-out-requires : tie.Need-way-out-requires
 way-out-requires c κs = search needs
@@ -29,9 +29,9 @@ release-requires c κs =
     let s = v .before .before .before .before .before .before .before .before .before in
     let a = s .args in
     let pre = s .pre in
-    let h = room-left (a .n) (a .visited .now) (a .released) (a .x) (pre .0 .2) (pre .0 .0) (pre .1 .1 .3) (sym (v .is-visited .ensures) ∙ w .before .before .if1 .taken) in
-    let l = linked-inside (a .out-head .now) (a .out-next .now) (a .steps) (a .x) (a-way {out = arcs (a .n) (a .steps) (a .to .now) (a .out-head .now) (a .out-next .now)} (w .way-out .ensures) (t .if2 .taken) .0) in
-    omega (arith, pre)
+    let h = room-left (a .n) (a .visited .now) (a .successor .now) (a .queue .now) (a .released) (pre .0 .2) (a .x) 0 (pre .0 .0) (sym (v .is-visited .ensures) ∙ w .before .before .if1 .taken) (pre .1 .1 .3) (pre .1 .1 .1) (pre .1 .1 .2) in
+    let l = linked-inside (a .out-head .now) (a .out-next .now) (a .steps) (a .x) (a-way (w .way-out .ensures) (t .if2 .taken) .1 .0) in
+    (omega (arith, pre), omega (arith, pre), omega (arith, pre), has-mark (a .n) (a .visited .now) (a .x) (pre .0 .0) (pre .1 .1 .3), omega (arith, pre))
 
 same-length : tie.Need-same-length
 same-length c = search needs
@@ -49,8 +49,8 @@ returns c =
     let w = t .before in
     let v = w .before .before .before in
     let a = v .before .before .before .before .before .before .before .before .before .args in
-    let (l, e) = a-way {out = arcs (a .n) (a .steps) (a .to .now) (a .out-head .now) (a .out-next .now)} (w .way-out .ensures) (t .if2 .taken) in
-    leaves (w .way-out .result - 1) (sym (v .is-visited .ensures) ∙ w .before .before .if1 .taken) l e (r .release .ensures)
+    let (g, l, e) = a-way (w .way-out .ensures) (t .if2 .taken) in
+    leaves (w .way-out .result - 1) g (sym (v .is-visited .ensures) ∙ w .before .before .if1 .taken) l e (r .release .ensures)
 
 same-length-4 : tie.Need-same-length-4
 same-length-4 c = search needs

@@ -1,17 +1,16 @@
--- `escapes` releases each queued state with a way out. The invariant: so far it did. The measure is what is left of the queue.
+-- `escapes` releases each queued node with a way out. The invariant: so far it did. The measure is what is left of the queue.
 -- Assumes nothing.
 use mathlib.Core.Path.{_≡_, sym}
-use mathlib.Core.List.{[]}
 use Prim.Native.Nat.{_-_, _≤_}
 use native.Mathlib.Omega.{arith}
-use Rattle.search.specs.Spreading.{arcs}
+use Rattle.search.specs.Spreading.{chains, outOf}
 use Rattle.search.proofs.Releasing.{Trying, trying-none, trying-more}
 use Rattle.search.proofs.rescue.escapes.Statement.{statement}
 use Rattle.search.proofs.rescue.escapes.Tie as tie
 
 abbrev Inv-loop : tie.InvT-loop
 Inv-loop n steps len to out-head out-next status successor₀ queue₀ visited₀ released₀ at₀ successor queue visited released at =
-    Trying (arcs n steps to out-head out-next) status visited₀ successor₀ queue₀ visited successor queue at released × (at ≤ len)
+    Trying n (outOf (chains n steps to out-head out-next)) status visited₀ successor₀ queue₀ visited successor queue at released × (at ≤ len)
 
 abbrev μ-loop : tie.MeasureT-loop
 μ-loop n steps len to out-head out-next status successor₀ queue₀ visited₀ released₀ at₀ successor queue visited released at =
@@ -24,7 +23,7 @@ mul-wide : tie.Need-mul-wide Inv-loop μ-loop
 mul-wide c = omega arith
 
 slice-read-wide : tie.Need-slice-read-wide Inv-loop μ-loop
-slice-read-wide c = let q = c .before .before .loop .inv .0 .sofar .queues .size in omega arith
+slice-read-wide c = let q = c .before .before .loop .inv .0 .sofar .releases .queues .size in omega arith
 
 wide-requires : tie.Need-wide-requires Inv-loop μ-loop
 wide-requires c κs = tt
@@ -36,10 +35,10 @@ escape-requires c κs =
     let s = l .before .before .before .before .before .before .before .before in
     let pre = s .pre in
     let t = l .loop .inv .0 in
-    let d = t .sofar .released (arcs 0 0 [] [] []) in
+    let d = t .sofar .releases in
     let b = pre .0 .2 (l .loop .at) (omega arith) in
     let e = t .rest (l .loop .at) (omega arith) in
-    ((omega (arith, w .wide .ensures), pre .0 .1, d .room), (pre .1 .0, (pre .1 .1 .0, omega (arith, pre, d .successors .size), omega (arith, pre, t .sofar .queues .size), omega (arith, pre, d .visits .size))))
+    ((omega (arith, w .wide .ensures), pre .0 .1, d .room), (pre .1 .0, (pre .1 .1 .0, omega (arith, pre, d .successors .size), omega (arith, pre, t .sofar .releases .queues .size), omega (arith, pre, d .visits .size))))
 
 add-at : tie.Need-add-at Inv-loop μ-loop
 add-at c = omega arith
@@ -60,13 +59,13 @@ loop-again c =
     (trying-more t (pre .1 .1 .3) (pre .1 .1 .1) (pre .1 .1 .2) (w .wide .result) (sym (w .wide .ensures)) (omega (arith, w .wide .ensures)) (r .escape .ensures), omega arith)
 
 same-length : tie.Need-same-length Inv-loop μ-loop
-same-length c = c .before .loop .inv .0 .sofar .released (arcs 0 0 [] [] []) .successors .size
+same-length c = c .before .loop .inv .0 .sofar .releases .successors .size
 
 same-length-2 : tie.Need-same-length-2 Inv-loop μ-loop
-same-length-2 c = c .before .loop .inv .0 .sofar .queues .size
+same-length-2 c = c .before .loop .inv .0 .sofar .releases .queues .size
 
 same-length-3 : tie.Need-same-length-3 Inv-loop μ-loop
-same-length-3 c = c .before .loop .inv .0 .sofar .released (arcs 0 0 [] [] []) .visits .size
+same-length-3 c = c .before .loop .inv .0 .sofar .releases .visits .size
 
 returns : tie.Need-returns Inv-loop μ-loop
 returns c =

@@ -1,7 +1,7 @@
 -- `leads_out` answers the test of its contract.
 -- Assumes nothing.
 use mathlib.Core.Path.{_≡_, sym}
-use mathlib.Core.Bool.{Bool, true, false, not, _&&_, and-true, and-false}
+use mathlib.Core.Bool.{Bool, true, false, and-true, and-false}
 use mathlib.Core.List.{List}
 use Prim.Native.Nat.{ℕ, _≤_, _<_}
 use native.Mathlib.Omega.{arith}
@@ -9,25 +9,26 @@ use lib.Dec.{eqb}
 use lib.ListN.{getD}
 use borrow.Author.Tests.{lt-ltb, le-ltb, eq-eqb, ne-eqb}
 use borrow.Author.Needs.{needs}
-use Rattle.tables.specs.Work.{marked}
+use Rattle.tables.specs.Visits.{marked}
+use Rattle.tables.proofs.Marking.{has-mark}
 use Rattle.gid.specs.Statuses.{statusOpen, statusUnknown}
-use Rattle.search.specs.Releasing.{hopeful}
+use Rattle.search.specs.Releasing.{hopeful, outside}
 use Rattle.search.proofs.rescue.leads_out.Statement.{statement}
 use Rattle.search.proofs.rescue.leads_out.Tie as tie
 
 -- The test at each place of the code, where y is the step's end w and m the mark of y.
 module _ (n : ℕ) (status visited : List ℕ) (w y : ℕ) (end : y ≡ w) where
-  at-none : n ≤ y → false ≡ (hopeful n status w && not (marked visited w))
+  at-none : n ≤ y → false ≡ outside n status visited w
   at-none h = rw (le-ltb w n (omega arith))
 
   module _ (m : Bool) (read : m ≡ marked visited y) where
-    at-visited : m ≡ true → false ≡ (hopeful n status w && not (marked visited w))
+    at-visited : m ≡ true → false ≡ outside n status visited w
     at-visited t = rw (← end, ← read, t) (sym (and-false (hopeful n status y)))
 
-    at-open : y < n → m ≡ false → getD status y 0 ≡ statusOpen → true ≡ (hopeful n status w && not (marked visited w))
+    at-open : y < n → m ≡ false → getD status y 0 ≡ statusOpen → true ≡ outside n status visited w
     at-open h f e = rw (← end, ← read, f, lt-ltb y n h, eq-eqb (getD status y 0) statusOpen e)
 
-    at-unknown : y < n → m ≡ false → (getD status y 0 ≡ statusOpen → ⊥) → eqb (getD status y 0) statusUnknown ≡ (hopeful n status w && not (marked visited w))
+    at-unknown : y < n → m ≡ false → (getD status y 0 ≡ statusOpen → ⊥) → eqb (getD status y 0) statusUnknown ≡ outside n status visited w
     at-unknown h f d = rw (← end, ← read, f, lt-ltb y n h, ne-eqb (getD status y 0) statusOpen d) (sym (and-true (eqb (getD status y 0) statusUnknown)))
 
 mul-wide : tie.Need-mul-wide
@@ -46,7 +47,10 @@ returns c =
     at-none (a .n) (a .status .now) (a .visited .now) (getD (a .to .now) (a .p) 0) (w .wide .result) (w .wide .ensures) (c .if1 .taken)
 
 is-visited-requires : tie.Need-is-visited-requires
-is-visited-requires c κs = search needs
+is-visited-requires c κs =
+    let s = c .before .before .before .before .before .before in
+    let a = s .args in
+    has-mark (a .n) (a .visited .now) (c .before .wide .result) (c .if1 .left) (s .pre .2)
 
 returns-2 : tie.Need-returns-2
 returns-2 c =

@@ -1,16 +1,16 @@
--- `rescue` leaves no visited source of a released state. The invariant: so for the first states of the queue. The measure is what is left up to n, which the queue never passes.
+-- `rescue` leaves no visited source of a released node. The invariant: so for the first nodes of the queue. The measure is what is left up to n, which the queue never passes.
 -- Assumes nothing.
 use mathlib.Core.Path.{sym}
 use Prim.Native.Nat.{_-_}
 use native.Mathlib.Omega.{arith}
-use Rattle.search.specs.Spreading.{arcs}
-use Rattle.search.proofs.Rescuing.{Saving, saving-none, saving-more, saving-end}
+use Rattle.search.specs.Spreading.{chains, into}
+use Rattle.search.proofs.Releasing.{Saving, saving-none, saving-more, saving-end}
 use Rattle.search.proofs.rescue.rescue.Statement.{statement}
 use Rattle.search.proofs.rescue.rescue.Tie as tie
 
 abbrev Inv-loop : tie.InvT-loop
 Inv-loop n steps len from in-head in-next successor₀ queue₀ visited₀ released₀ at₀ successor queue visited released at =
-    Saving (arcs n steps from in-head in-next) visited₀ successor₀ queue₀ visited successor queue len released at
+    Saving n (into (chains n steps from in-head in-next)) visited₀ successor₀ queue₀ visited successor queue len released at
 
 abbrev μ-loop : tie.MeasureT-loop
 μ-loop n steps len from in-head in-next successor₀ queue₀ visited₀ released₀ at₀ successor queue visited released at =
@@ -36,7 +36,7 @@ rescue-sources-requires c κs =
     let l = w .before .before .before in
     let pre = l .before .before .before .before .before .before .before .pre in
     let part = l .loop .inv .part in
-    ((part .room, pre .0 .1, part .below, (l .loop .at, w .before .before .loop-test .taken, sym (w .wide .ensures))), (pre .1 .0, (omega (arith, pre, part .successors .size), omega (arith, pre, part .queues .size), omega (arith, pre, part .visits .size))))
+    ((part .room, pre .0 .1, l .loop .inv .below, (l .loop .at, w .before .before .loop-test .taken, sym (w .wide .ensures))), (pre .1 .0, (omega (arith, pre, part .successors .size), omega (arith, pre, part .queues .size), omega (arith, pre, part .visits .size))))
 
 add-at : tie.Need-add-at Inv-loop μ-loop
 add-at c = omega arith

@@ -2,7 +2,8 @@
 -- Assumes nothing.
 use mathlib.Core.Path.{refl, sym, _∙_}
 use native.Mathlib.Omega.{arith}
-use Rattle.search.specs.Rescuing.{passed, pulled}
+use Rattle.tables.proofs.Marking.{has-mark}
+use Rattle.search.specs.Releasing.{passed, pulled}
 use Rattle.search.proofs.Releasing.{room-left}
 use borrow.Author.Needs.{needs}
 use Rattle.search.proofs.rescue.rescue_source.Statement.{statement}
@@ -22,15 +23,17 @@ returns c =
     passed (λ h. absurd (omega arith)) (record { visits = refl; successors = refl; queues = refl; number = refl })
 
 is-visited-requires : tie.Need-is-visited-requires
-is-visited-requires c κs = search needs
+is-visited-requires c κs = let s = c .before .before .before .before .before .before .before .before in has-mark (s .args .n) (s .args .visited .now) (c .before .before .wide .result) (c .before .if1 .left) (s .pre .1 .2)
 
 release-requires : tie.Need-release-requires
 release-requires c κs =
     let v = c .before .before .before .before in
     let w = v .before .before .before in
-    let a = w .before .before .before .before .before .before .args in
-    let h = room-left (a .n) (a .visited .now) (a .released) (w .wide .result) (omega arith) (omega arith) (omega arith) (sym (v .is-visited .ensures) ∙ c .before .before .before .if2 .taken) in
-    omega arith
+    let s = w .before .before .before .before .before .before in
+    let a = s .args in
+    let range = v .before .before .if1 .left in
+    let h = room-left (a .n) (a .visited .now) (a .successor .now) (a .queue .now) (a .released) (s .pre .0 .0) (w .wide .result) 0 range (sym (v .is-visited .ensures) ∙ c .before .before .before .if2 .taken) (s .pre .1 .2) (s .pre .1 .0) (s .pre .1 .1) in
+    (omega arith, omega arith, omega arith, has-mark (a .n) (a .visited .now) (w .wide .result) range (s .pre .1 .2), omega arith)
 
 same-length : tie.Need-same-length
 same-length c = search needs

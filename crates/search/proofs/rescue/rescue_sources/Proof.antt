@@ -1,14 +1,14 @@
 -- `rescue_sources` leaves x no visited source. The invariant: so for the steps that the walk has passed. The measure is its place.
 -- Assumes nothing.
 use native.Mathlib.Omega.{arith}
-use Rattle.search.specs.Spreading.{arcs}
-use Rattle.search.proofs.Rescuing.{Pulling, pulling-first, pulling-more, pulling-end}
+use Rattle.search.specs.Spreading.{chains}
+use Rattle.search.proofs.Releasing.{Pulling, pulling-first, pulling-more, pulling-end}
 use Rattle.search.proofs.rescue.rescue_sources.Statement.{statement}
 use Rattle.search.proofs.rescue.rescue_sources.Tie as tie
 
 abbrev Inv-loop : tie.InvT-loop
 Inv-loop n steps x len from in-head in-next successor₀ queue₀ visited₀ released₀ p₀ successor queue visited released p =
-    Pulling (arcs n steps from in-head in-next) x visited₀ successor₀ queue₀ visited successor queue len released p
+    Pulling (chains n steps from in-head in-next) x visited₀ successor₀ queue₀ visited successor queue len released p
 
 abbrev μ-loop : tie.MeasureT-loop
 μ-loop n steps x len from in-head in-next successor₀ queue₀ visited₀ released₀ p₀ successor queue visited released p =
@@ -24,7 +24,7 @@ first-requires c κs =
 loop-holds : tie.Need-loop-holds Inv-loop μ-loop
 loop-holds c =
     let pre = c .before .before .before .before .before .before .before .pre in
-    pulling-first (pre .0 .0) (pre .0 .2) (c .first .ensures .0)
+    pulling-first (pre .0 .0) (c .first .ensures .0)
 
 sub-rescue-source : tie.Need-sub-rescue-source Inv-loop μ-loop
 sub-rescue-source c = omega arith

@@ -1,7 +1,8 @@
--- `settle` settles the visited states of the span. The loop's invariant: the states below s have been seen. The measure is how many are left.
+-- `settle` settles the visited nodes of the span. The loop's invariant: the nodes below s have been seen. The measure is how many are left.
 -- Assumes nothing.
 use Prim.Native.Nat.{_+_, _-_}
 use native.Mathlib.Omega.{arith}
+use Rattle.tables.proofs.Marking.{has-mark}
 use Rattle.search.proofs.Settling.{Settling, settling-first, settling-next, settling-last}
 use Rattle.search.proofs.settle.settle.Statement.{statement}
 use Rattle.search.proofs.settle.settle.Tie as tie
@@ -17,14 +18,14 @@ abbrev μ-loop : tie.MeasureT-loop
 loop-holds : tie.Need-loop-holds Inv-loop μ-loop
 loop-holds c = settling-first
 
-settle-state-requires : tie.Need-settle-state-requires Inv-loop μ-loop
-settle-state-requires c κs =
+settle-node-requires : tie.Need-settle-node-requires Inv-loop μ-loop
+settle-node-requires c κs =
     let t = c .before .before .before .before in
     let l = t .before in
     let p = l .before .before .before .before .before .pre in
     let i = l .loop .inv in
     let v = i .visits .size in
-    omega (arith, t .loop-test, p, i)
+    (omega (arith, t .loop-test, p, i), omega (arith, t .loop-test, p, i), has-mark (l .before .before .before .before .before .args .span .high + 1) (l .loop .visited) (l .loop .s) (omega (arith, t .loop-test)) (omega (arith, v, p .3)), omega (arith, t .loop-test, p, i), omega (arith, t .loop-test, p, i))
 
 add-s : tie.Need-add-s Inv-loop μ-loop
 add-s c =
@@ -42,7 +43,7 @@ loop-again c =
     let t = o .before .before .before .before .before in
     let l = t .before in
     let p = l .before .before .before .before .before .pre in
-    settling-next (l .loop .inv) (t .loop-test .taken) (p .0) (p .1) (p .2) (p .3) (o .settle-state .ensures)
+    settling-next (l .loop .inv) (t .loop-test .taken) (p .0) (p .1) (p .2) (p .3) (o .settle-node .ensures)
 
 same-length : tie.Need-same-length Inv-loop μ-loop
 same-length c = c .before .loop .inv .statuses
@@ -66,7 +67,7 @@ settle-spec =
     Inv-loop
     μ-loop
     loop-holds
-    settle-state-requires
+    settle-node-requires
     add-s
     loop-less
     loop-again

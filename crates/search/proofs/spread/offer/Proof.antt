@@ -4,6 +4,7 @@ use mathlib.Core.Path.{refl, sym, _∙_}
 use mathlib.Core.Bool.{false≢true}
 use Prim.Native.Nat.{_<_}
 use native.Mathlib.Omega.{arith}
+use Rattle.tables.proofs.Marking.{has-mark}
 use Rattle.search.proofs.Marking.{unvisited-mark}
 use borrow.Author.Needs.{needs}
 use Rattle.search.specs.Offering.{passed, taken}
@@ -23,7 +24,7 @@ returns : tie.Need-returns
 returns c = passed (λ h ok. let e = c .before .wide .ensures in absurd (omega arith)) refl refl refl
 
 is-visited-requires : tie.Need-is-visited-requires
-is-visited-requires c κs = search needs
+is-visited-requires c κs = let s = c .before .before .before .before .before .before .before .before .before in has-mark (s .args .n) (s .args .visited .now) (c .before .before .wide .result) (c .before .if1 .left) (s .pre .1 .3)
 
 same-length : tie.Need-same-length
 same-length c = search needs
@@ -39,11 +40,12 @@ allowed-requires c κs = search needs
 admit-requires : tie.Need-admit-requires
 admit-requires c κs =
     let v = c .before .before .before .before in
-    let a = v .before .before .before .before .before .before .before .before .before .before .before .args in
+    let s = v .before .before .before .before .before .before .before .before .before .before .before in
+    let a = s .args in
     let y = v .before .before .before .before .wide .result in
     let h : y < a .n = v .before .before .before .if1 .left in
-    let e = unvisited-mark (a .visited .now) y (a .n) h (omega arith) (sym (v .before .is-visited .ensures) ∙ v .if2 .left) in
-    omega arith
+    let e = unvisited-mark (a .visited .now) y (a .n) h (s .pre .1 .3) (sym (v .before .is-visited .ensures) ∙ v .if2 .left) in
+    (has-mark (a .n) (a .visited .now) y h (s .pre .1 .3), omega arith, omega arith)
 
 same-length-2 : tie.Need-same-length-2
 same-length-2 c = search needs

@@ -1,14 +1,14 @@
 -- `offer_sources` offers the source of each step into x. The loop's invariant: each such step is still to be met, or its source has been offered. The measure is where the walk stands.
 -- Assumes nothing.
 use native.Mathlib.Omega.{arith}
-use Rattle.search.specs.Spreading.{arcs, allowed}
+use Rattle.search.specs.Spreading.{chains, allowed}
 use Rattle.search.proofs.Offering.{OfferWalk, offer-first, offer-next, offer-last}
 use Rattle.search.proofs.spread.offer_sources.Statement.{statement}
 use Rattle.search.proofs.spread.offer_sources.Tie as tie
 
 abbrev Inv-loop : tie.InvT-loop
 Inv-loop mode n steps x from in-head in-next status successor queue₀ visited₀ span₀ p₀ queue visited span p =
-    OfferWalk (arcs n steps from in-head in-next) (allowed mode status successor) x visited₀ queue₀ span₀ visited queue span p
+    OfferWalk (chains n steps from in-head in-next) (allowed mode status successor) x visited₀ queue₀ span₀ visited queue span p
 
 abbrev μ-loop : tie.MeasureT-loop
 μ-loop mode n steps x from in-head in-next status successor queue₀ visited₀ span₀ p₀ queue visited span p =

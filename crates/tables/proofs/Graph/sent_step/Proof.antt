@@ -4,9 +4,6 @@ use Rattle.tables.specs.Refused.{sentNumber}
 use borrow.Author.Needs.{needs}
 use Rattle.tables.proofs.Graph.sent_step.Statement.{statement}
 use Rattle.tables.proofs.Graph.sent_step.Tie as tie
-use Rattle.tables.proofs.Graph.sent_step.Reads as reads
-use Rattle.tables.proofs.Graph.sent_step.Lts as lts
-use Rattle.tables.proofs.marks.has_closed.Reads as has-closed-reads
 
 returns : tie.Need-returns
 unfolding sentNumber
@@ -14,7 +11,7 @@ returns c = simp (le-leb _ _ (c .if1 .taken))
 
 returns-2 : tie.Need-returns-2
 unfolding sentNumber
-returns-2 c = simp (lt-leb _ _ (c .before .before .if1 .left), le-leb _ _ (c .if2 .taken))
+returns-2 c = simp (lt-leb _ _ (c .before .before .before .if1 .left), le-leb _ _ (c .if2 .taken))
 
 shared-slice-read-has-closed : tie.Need-shared-slice-read-has-closed
 shared-slice-read-has-closed c = search needs
@@ -24,22 +21,22 @@ has-closed-requires c κs = search needs
 
 returns-3 : tie.Need-returns-3
 unfolding sentNumber
-returns-3 c = simp (lt-leb _ _ (c .before .before .before .before .before .if1 .left), lt-leb _ _ (c .before .before .before .if2 .left), sym (c .before .has-closed .ensures) ∙ c .if3 .taken)
+returns-3 c = simp (lt-leb _ _ (c .before .before .before .before .before .before .if1 .left), lt-leb _ _ (c .before .before .before .if2 .left), sym (c .before .has-closed .ensures) ∙ c .if3 .taken)
 
 shared-slice-read-if4 : tie.Need-shared-slice-read-if4
 shared-slice-read-if4 c = search needs
 
 returns-4 : tie.Need-returns-4
 unfolding sentNumber
-returns-4 c = simp (lt-leb _ _ (c .before .before .before .before .before .before .before .if1 .left), lt-leb _ _ (c .before .before .before .before .before .if2 .left), sym (c .before .before .before .has-closed .ensures) ∙ c .before .before .if3 .left, eq-eqb _ _ (c .if4 .taken))
+returns-4 c = simp (lt-leb _ _ (c .before .before .before .before .before .before .before .before .if1 .left), lt-leb _ _ (c .before .before .before .before .before .if2 .left), sym (c .before .before .before .has-closed .ensures) ∙ c .before .before .if3 .left, eq-eqb _ _ (c .if4 .taken))
 
 returns-5 : tie.Need-returns-5
 unfolding sentNumber
-returns-5 c = simp (lt-leb _ _ (c .before .before .before .before .before .before .before .before .before .if1 .left), lt-leb _ _ (c .before .before .before .before .before .before .before .if2 .left), sym (c .before .before .before .before .before .has-closed .ensures) ∙ c .before .before .before .before .if3 .left, ne-eqb _ _ (c .before .before .if4 .left), eq-eqb _ _ (c .if5 .taken))
+returns-5 c = simp (lt-leb _ _ (c .before .before .before .before .before .before .before .before .before .if1 .left), lt-leb _ _ (c .before .before .before .before .before .before .if2 .left), sym (c .before .before .before .before .has-closed .ensures) ∙ c .before .before .before .if3 .left, ne-eqb _ _ (c .before .if4 .left), c .if5 .taken)
 
 returns-6 : tie.Need-returns-6
 unfolding sentNumber
-returns-6 c = simp (lt-leb _ _ (c .before .before .before .before .before .before .before .before .before .if1 .left), lt-leb _ _ (c .before .before .before .before .before .before .before .if2 .left), sym (c .before .before .before .before .before .has-closed .ensures) ∙ c .before .before .before .before .if3 .left, ne-eqb _ _ (c .before .before .if4 .left), ne-eqb _ _ (c .if5 .left))
+returns-6 c = simp (lt-leb _ _ (c .before .before .before .before .before .before .before .before .before .if1 .left), lt-leb _ _ (c .before .before .before .before .before .before .if2 .left), sym (c .before .before .before .before .has-closed .ensures) ∙ c .before .before .before .if3 .left, ne-eqb _ _ (c .before .if4 .left), c .if5 .left)
 
 pub sent-step-spec : {M : Type 1} → statement M
 sent-step-spec =

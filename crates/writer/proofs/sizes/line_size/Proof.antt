@@ -42,7 +42,7 @@ add-result-4 c = omega (arith, c .digits4 .ensures .1)
 returns : tie.Need-returns
 returns c =
     let update = c .before .before .before .update in
-    rw (update .given .1) (omega (arith, c .before .digits .ensures .0, c .digits2 .ensures .0, step-size (update .given .0 .0) (update .given .0 .1 .0)))
+    rw (update .given .1) (omega (arith, c .before .digits .ensures .0, c .digits2 .ensures .0, step-size (update .given .0 .0)))
 
 returns-2 : tie.Need-returns-2
 returns-2 c =

@@ -8,6 +8,9 @@ both-requires c κs = search needs
 both-requires-2 : tie.Need-both-requires-2
 both-requires-2 c κs = search needs
 
+visited-len-requires : tie.Need-visited-len-requires
+visited-len-requires c κs = search needs
+
 both-requires-3 : tie.Need-both-requires-3
 both-requires-3 c κs = search needs
 
@@ -36,7 +39,7 @@ both-requires-11 : tie.Need-both-requires-11
 both-requires-11 c κs = search needs
 
 returns : tie.Need-returns
-returns c = rw (c .both11 .ensures, c .before .before .both10 .ensures, c .before .before .before .before .both9 .ensures, c .before .before .before .before .before .before .both8 .ensures, c .before .before .before .before .before .before .before .before .both7 .ensures, c .before .before .before .before .before .before .before .before .before .before .both6 .ensures, c .before .before .before .before .before .before .before .before .before .before .before .before .both5 .ensures, c .before .before .before .before .before .before .before .before .before .before .before .before .before .before .both4 .ensures, c .before .before .before .before .before .before .before .before .before .before .before .before .before .before .before .before .both3 .ensures, c .before .before .before .before .before .before .before .before .before .before .before .before .before .before .before .before .before .before .both2 .ensures, c .before .before .before .before .before .before .before .before .before .before .before .before .before .before .before .before .before .before .before .before .both .ensures)
+returns c = rw (c .both11 .ensures, c .before .before .both10 .ensures, c .before .before .before .before .both9 .ensures, c .before .before .before .before .before .before .both8 .ensures, c .before .before .before .before .before .before .before .before .both7 .ensures, c .before .before .before .before .before .before .before .before .before .before .both6 .ensures, c .before .before .before .before .before .before .before .before .before .before .before .before .both5 .ensures, c .before .before .before .before .before .before .before .before .before .before .before .before .before .before .both4 .ensures, c .before .before .before .before .before .before .before .before .before .before .before .before .before .before .before .before .both3 .ensures, c .before .before .before .before .before .before .before .before .before .before .before .before .before .before .before .before .before .before .visited-len .ensures, c .before .before .before .before .before .before .before .before .before .before .before .before .before .before .before .before .before .before .before .both2 .ensures, c .before .before .before .before .before .before .before .before .before .before .before .before .before .before .before .before .before .before .before .before .before .both .ensures)
 
 pub enough-to-check-spec : {M : Type 1} → statement M
 enough-to-check-spec =
@@ -44,6 +47,7 @@ enough-to-check-spec =
     (tie.spec
     both-requires
     both-requires-2
+    visited-len-requires
     both-requires-3
     both-requires-4
     both-requires-5

@@ -1,0 +1,35 @@
+-- What an accepted update is prepared by: its states are in range, a step has a place, and the states that it names are seen.
+-- Assumes nothing.
+use mathlib.Core.Bool.{cond}
+use mathlib.Core.List.{List}
+use Prim.Native.Nat.{ℕ, _<_}
+use lib.Dec.{eqb}
+use lib.ListN.{length, getD, set}
+use Rattle.gid.specs.declared.Update.{Update}
+use Rattle.gid.specs.declared.Update.the-variants.{Step, Terminal, Close}
+use Rattle.gid.specs.Statuses.{statusUnseen, statusOpen}
+
+-- A state that is named: unseen becomes open.
+abbrev pub namedByte : ℕ → ℕ
+namedByte b = cond (eqb b statusUnseen) statusOpen b
+
+abbrev pub nameAt : ℕ → List ℕ → List ℕ
+nameAt s status = set status s (namedByte (getD status s 0))
+
+-- The statuses once the states of an update are named.
+abbrev pub namesAfter : Update → List ℕ → List ℕ
+namesAfter (Step e) status = nameAt (e .to) (nameAt (e .from) status)
+namesAfter (Terminal u) status = nameAt u status
+namesAfter (Close u) status = nameAt u status
+
+-- The states of an update are below n.
+abbrev pub InRange : ℕ → Update → Type 0
+InRange n (Step e) = (e .from < n) × (e .to < n)
+InRange n (Terminal u) = u < n
+InRange n (Close u) = u < n
+
+-- Where the update is a step, a table has a place m.
+abbrev pub Free : ℕ → Update → List ℕ → Type 0
+Free m (Step e) l = m < length l
+Free m (Terminal u) l = Unit {0}
+Free m (Close u) l = Unit {0}
