@@ -33,9 +33,7 @@ enum { NAMED = 1, TERMINAL = 2, CLOSED = 4 };
 
 static int refused_source(const Engine *e, size_t u)
 {
-    if (e->marks[u] & CLOSED) return 6;
-    if (e->status[u] == DEAD) return 8;
-    return 0;
+    return e->marks[u] & CLOSED ? 6 : 0;
 }
 
 static int refused_step(const Engine *e, size_t u, size_t v)

@@ -12,7 +12,6 @@ uint32_t members_step(radvoinis_tables *t, uint32_t u, uint32_t v)
 {
     if (u >= t->n || v >= t->n) return REFUSED + 5;
     if (t->marks[u] & 4) return REFUSED + 6;
-    if (t->status[u] == DEAD) return REFUSED + 8;
     if (t->steps == t->limit) return REFUSED + 9;
     size_t p = t->steps++;
     t->from[p] = (uint16_t)u;

@@ -149,9 +149,9 @@ fault "9 for a terminal mark" "$(within refused_terminal 's/return refused_sourc
 fault "6 before 5" "$(within refused_step 's/    if (u >= e->n || v >= e->n) return 5;/    if (u >= e->n) return 5; if (e->marks[u] \& CLOSED) return 6; if (v >= e->n) return 5;/')"
 fault "6 for a close again" 's/? 7 : 0/? 6 : 0/'
 fault "a close again is accepted" 's/? 7 : 0/? 0 : 0/'
-fault "8 before 6" "$(within refused_source 's/    if (e->marks\[u\] & CLOSED) return 6;/    if (e->status[u] == DEAD) return 8;\n&/')"
-fault "no 8" 's/    if (e->status\[u\] == DEAD) return 8;//'
-fault "8 for a close" "$(within refused_close 's/? 7 : 0/? 7 : e->status[u] == DEAD ? 8 : 0/')"
+few=1 fault "8 still given" "$(within refused_source 's/? 6 : 0/? 6 : e->status[u] == DEAD ? 8 : 0/')"
+fault "6 by the status" "$(within refused_source 's/e->marks\[u\] & CLOSED/e->marks[u] \& CLOSED || e->status[u] == DEAD/')"
+fault "7 by the status" "$(within refused_close 's/e->marks\[u\] & CLOSED/e->marks[u] \& CLOSED || e->status[u] == DEAD/')"
 fault "5 for the second state of a terminal mark" "s/kind == 'T' ? refused_terminal(e, first)/kind == 'T' ? (second >= e->n ? 5 : refused_terminal(e, first))/"
 fault "n itself is a state" 's/u >= e->n || v >= e->n/u > e->n || v > e->n/'
 fault "states in sixteen bits" 's/u >= e->n || v >= e->n/(uint16_t)u >= e->n || (uint16_t)v >= e->n/'

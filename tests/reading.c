@@ -81,7 +81,7 @@ int reading_line(Reading *r, const uint8_t *line, size_t length, FILE *listing)
     }
     Update u = update_of(line, length);
     const History *h = &r->history;
-    int refusal = reference_sent(h->n, h->limit, h->steps, r->marks, r->status, u);
+    int refusal = reference_sent(h->n, h->limit, h->steps, r->marks, u);
     refusal ? refuse(r, number, refusal, listing) : accept(r, number, u, listing);
     return 1;
 }

@@ -193,14 +193,13 @@ int reference_lent(size_t n, size_t limit, size_t steps, int long_enough)
     return 0;
 }
 
-int reference_sent(size_t n, size_t limit, size_t steps, const uint8_t *marks, const uint8_t *status, Update u)
+int reference_sent(size_t n, size_t limit, size_t steps, const uint8_t *marks, Update u)
 {
     int opens = u.kind == 'E' || u.kind == 'T';
     if (!opens && u.kind != 'C') return 11;
     if (u.first >= n || (u.kind == 'E' && u.second >= n)) return 5;
     if (opens && (marks[u.first] & CLOSED)) return 6;
     if (u.kind == 'C' && (marks[u.first] & CLOSED)) return 7;
-    if (opens && status[u.first] == DEAD) return 8;
     if (u.kind == 'E' && steps == limit) return 9;
     return 0;
 }

@@ -40,6 +40,6 @@ size_t reference_news(size_t n, const uint8_t *before, const uint8_t *after, uin
 // The number of the first test that applies, or 0: 1 to 4 of what is lent, 5 to 9 of what is sent, read off tables of any contents. What
 // is none of the three kinds is no update, and gets a malformed line's 11 before 5.
 int reference_lent(size_t n, size_t limit, size_t steps, int long_enough);
-int reference_sent(size_t n, size_t limit, size_t steps, const uint8_t *marks, const uint8_t *status, Update u);
+int reference_sent(size_t n, size_t limit, size_t steps, const uint8_t *marks, Update u);
 
 #endif

@@ -25,7 +25,7 @@ auditOutcome (Refused k) = Outcome.refused k
 
 -- The number of the first of the tests 1 to 4 that applies, if one does. "Test 3 covers the tables that the call in hand is lent": all but the news list.
 abbrev pub auditRefusal : Graph → Tables → Option ℕ
-auditRefusal g t = first (lent (given g (enough (checkNeeds (g .n) (nodesOf g) (g .limit) (lengths t))) false (t .marks) (t .status)))
+auditRefusal g t = first (lent (given g (enough (checkNeeds (g .n) (nodesOf g) (g .limit) (lengths t))) false (t .marks)))
 
 -- The tables after a check that left these in the queue and in the visited marks.
 abbrev pub afterCheck : Tables → List ℕ → List ℕ → Tables

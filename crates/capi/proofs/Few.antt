@@ -48,7 +48,7 @@ module _ (g : Graph) (l : Lengths) where
   malformed = record { applies = true; number = 11 } ∷ []
 
   pub kind-refused : (k : ℕ) → lentNumber g long ≡ k → (k ≡ 0 → ⊥) → kindRefusal g l ≡ some k
-  kind-refused k e n = first-some (lent (given g long false [] [])) malformed k (lent-refuses g long false [] [] k e n)
+  kind-refused k e n = first-some (lent (given g long false [])) malformed k (lent-refuses g long false [] k e n)
 
   pub kind-malformed : lentNumber g long ≡ 0 → kindRefusal g l ≡ some 11
-  kind-malformed e = first-none (lent (given g long false [] [])) malformed (lent-passes g long false [] [] e)
+  kind-malformed e = first-none (lent (given g long false [])) malformed (lent-passes g long false [] e)

@@ -34,7 +34,7 @@ kindBy kind u v = cond (eqb kind 69) (Known (Step (edge u v))) (cond (eqb kind 8
 
 -- The number of any other kind: "11: a line is malformed", behind the tests 1 to 4.
 abbrev pub kindRefusal : Graph → Lengths → Option ℕ
-kindRefusal g l = first (lent (given g (enough (needs (g .n) (nodesOf g) (g .limit) l)) false [] []) ++ (record { applies = true; number = 11 } ∷ []))
+kindRefusal g l = first (lent (given g (enough (needs (g .n) (nodesOf g) (g .limit) l)) false []) ++ (record { applies = true; number = 11 } ∷ []))
 
 -- A call with n states, a step limit and m steps before it and m′ after it: an update keeps the engine's promise, and the answer is the number of its news; another kind is refused, and changes nothing.
 pub data Called (n limit m : ℕ) : Kind → Tables → ℕ → Tables → ℕ → Type 0 where

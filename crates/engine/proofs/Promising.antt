@@ -45,17 +45,17 @@ room-of g t e =
     record { states = l .few-states; bound = l .low-limit; steps = l .room; news = a .0; long = a .1 }
 
 -- what the tests 5 to 9 leave
-pub sendable-of : (g : Graph) (marks status : List ℕ) (x : Update) → g .steps ≤ g .limit → sentNumber g (isFull g) marks status x ≡ 0 → Sendable (g .n) (g .limit) (g .steps) x × (hasClosed (getD marks (source x) 0) ≡ false)
-sendable-of g marks status (Step d) h e =
-    let p = passed (sent (given g true (isFull g) marks status) (Step d)) (sent-passes g (isFull g) marks status (Step d) e) in
+pub sendable-of : (g : Graph) (marks : List ℕ) (x : Update) → g .steps ≤ g .limit → sentNumber g (isFull g) marks x ≡ 0 → Sendable (g .n) (g .limit) (g .steps) x × (hasClosed (getD marks (source x) 0) ≡ false)
+sendable-of g marks (Step d) h e =
+    let p = passed (sent (given g true (isFull g) marks) (Step d)) (sent-passes g (isFull g) marks (Step d) e) in
     let r = neither (leb (g .n) (d .from)) (leb (g .n) (d .to)) (p .0) in
-    let n = eqb-false (g .steps) (g .limit) (p .1 .1 .1 .0) in
+    let n = eqb-false (g .steps) (g .limit) (p .1 .1 .0) in
     ((leb-false (g .n) (d .from) (r .0), leb-false (g .n) (d .to) (r .1), omega arith), p .1 .0)
-sendable-of g marks status (Terminal u) h e =
-    let p = passed (sent (given g true (isFull g) marks status) (Terminal u)) (sent-passes g (isFull g) marks status (Terminal u) e) in
+sendable-of g marks (Terminal u) h e =
+    let p = passed (sent (given g true (isFull g) marks) (Terminal u)) (sent-passes g (isFull g) marks (Terminal u) e) in
     (leb-false (g .n) u (p .0), p .1 .0)
-sendable-of g marks status (Close u) h e =
-    let p = passed (sent (given g true (isFull g) marks status) (Close u)) (sent-passes g (isFull g) marks status (Close u) e) in
+sendable-of g marks (Close u) h e =
+    let p = passed (sent (given g true (isFull g) marks) (Close u)) (sent-passes g (isFull g) marks (Close u) e) in
     (leb-false (g .n) u (p .0), p .1 .0)
 
 pub in-range : (n limit m : ℕ) (x : Update) → Sendable n limit m x → source x < n
@@ -117,12 +117,12 @@ module _ (g : Graph) (x : Update) (t : Tables) where
   lent-kept k e n = refusal-kept k (refused-lent g t x k e n)
 
   module _ (lent : lentNumber g (longEnough g t) ≡ 0) where
-    pub sent-kept : (k : ℕ) → sentNumber g (isFull g) (t .marks) (t .status) x ≡ k → (k ≡ 0 → ⊥) → Promise g x t g (Refused k) t
+    pub sent-kept : (k : ℕ) → sentNumber g (isFull g) (t .marks) x ≡ k → (k ≡ 0 → ⊥) → Promise g x t g (Refused k) t
     sent-kept k e n = refusal-kept k (refused-sent g t x lent k e n)
 
-    module _ (e : sentNumber g (isFull g) (t .marks) (t .status) x ≡ 0) {t′ : Tables} {k : ℕ} (done : Done (g .n) (g .steps) t t′ k x) where
+    module _ (e : sentNumber g (isFull g) (t .marks) x ≡ 0) {t′ : Tables} {k : ℕ} (done : Done (g .n) (g .steps) t t′ k x) where
       sendable : Sendable (g .n) (g .limit) (g .steps) x × (hasClosed (getD (t .marks) (source x) 0) ≡ false)
-      sendable = sendable-of g (t .marks) (t .status) x (room-of g t lent .steps) e
+      sendable = sendable-of g (t .marks) x (room-of g t lent .steps) e
 
       unclosed : {h : History} → Consistent h g t → IsClosed h (source x) → ⊥
       unclosed {h} c = refuted (decides-closed h (source x)) (sym (closed-bit h (source x)) ∙ ap hasClosed (sym (c .marks (source x) (in-range (g .n) (g .limit) (g .steps) x (sendable .0)))) ∙ sendable .1)

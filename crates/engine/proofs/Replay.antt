@@ -1,24 +1,20 @@
 -- On tables that fit for a legal history the engine answers what the definitions say: refusals, news and the history after the update.
 -- Assumes nothing.
-use mathlib.Core.Path.{_≡_, refl, sym, _∙_, ap}
+use mathlib.Core.Path.{_≡_, refl, _∙_, ap}
 use mathlib.Core.Bool.{Bool, true, false, cond, _||_}
 use mathlib.Core.List.{List, [], _∷_, _++_}
 use mathlib.Core.Option.{Option, some, none}
 use Prim.Native.Nat.{ℕ, _<_}
-use native.Mathlib.Omega.{arith}
 use lib.Dec.{leb, eqb}
 use lib.ListN.{length, getD}
 use borrow.Author.Tests.{leb-false}
 use Rattle.gid.specs.declared.Update.{Update}
 use Rattle.gid.specs.declared.Update.the-variants.{Step, Terminal, Close}
 use Rattle.gid.specs.Histories.{History, listed}
-use Rattle.gid.specs.Statuses.{isClosed, isDead, status, statusDead}
+use Rattle.gid.specs.Statuses.{isClosed}
 use Rattle.gid.specs.News.{news}
 use Rattle.gid.specs.Refusals.{Rule, first, lent, sent, refusal}
 use Rattle.gid.specs.Outcomes.{accepted, byNumber, givenAfter, outcome, after}
-use Rattle.gid.proofs.Decide.{same-test, decides-eq}
-use Rattle.gid.proofs.Tests.{decides-dead}
-use Rattle.gid.proofs.Statuses.{status-dead-by-reach}
 use Rattle.tables.specs.declared.Graph.{Graph}
 use Rattle.tables.specs.Tables.{Tables, longEnough}
 use Rattle.tables.specs.Marks.{hasClosed}
@@ -44,21 +40,16 @@ module _ {h : History} {g : Graph} {t : Tables} (c : Consistent h g t) where
   closed-same : (u : ℕ) → u < g .n → hasClosed (getD (t .marks) u 0) ≡ isClosed h u
   closed-same u r = ap hasClosed (c .marks u r) ∙ closed-bit h u
 
-  dead-same : (u : ℕ) → u < g .n → eqb (getD (t .status) u 0) statusDead ≡ isDead h u
-  dead-same u r =
-      same-test (eqb (getD (t .status) u 0) statusDead) (isDead h u) (decides-eq (getD (t .status) u 0) statusDead) (decides-dead h u)
-      (λ e. status-dead-by-reach h u .0 (sym (c .status u r) ∙ e)) (λ d. c .status u r ∙ status-dead-by-reach h u .1 d)
-
-  sent-same : (long : Bool) (x : Update) → first (sent (given g long (isFull g) (t .marks) (t .status)) x) ≡ first (sent (givenAfter (g .n) (g .limit) h) x)
+  sent-same : (long : Bool) (x : Update) → first (sent (given g long (isFull g) (t .marks)) x) ≡ first (sent (givenAfter (g .n) (g .limit) h) x)
   unfolding givenAfter
   sent-same long (Step d) =
       guarded (leb (g .n) (d .from) || leb (g .n) (d .to)) (leb (g .n) (d .from) || leb (g .n) (d .to)) refl
-      (rule (hasClosed (getD (t .marks) (d .from) 0)) 6 ∷ rule (eqb (getD (t .status) (d .from) 0) statusDead) 8 ∷ rule (isFull g) 9 ∷ [])
-      (rule (isClosed h (d .from)) 6 ∷ rule (isDead h (d .from)) 8 ∷ rule (eqb (length (listed h)) (g .limit)) 9 ∷ [])
-      (λ e. let r = leb-false (g .n) (d .from) (neither (leb (g .n) (d .from)) (leb (g .n) (d .to)) e .0) in rw (closed-same (d .from) r, dead-same (d .from) r, c .steps))
+      (rule (hasClosed (getD (t .marks) (d .from) 0)) 6 ∷ rule (isFull g) 9 ∷ [])
+      (rule (isClosed h (d .from)) 6 ∷ rule (eqb (length (listed h)) (g .limit)) 9 ∷ [])
+      (λ e. let r = leb-false (g .n) (d .from) (neither (leb (g .n) (d .from)) (leb (g .n) (d .to)) e .0) in rw (closed-same (d .from) r, c .steps))
   sent-same long (Terminal u) =
-      guarded (leb (g .n) u) (leb (g .n) u) refl (rule (hasClosed (getD (t .marks) u 0)) 6 ∷ rule (eqb (getD (t .status) u 0) statusDead) 8 ∷ []) (rule (isClosed h u) 6 ∷ rule (isDead h u) 8 ∷ [])
-      (λ e. let r = leb-false (g .n) u e in rw (closed-same u r, dead-same u r))
+      guarded (leb (g .n) u) (leb (g .n) u) refl (rule (hasClosed (getD (t .marks) u 0)) 6 ∷ []) (rule (isClosed h u) 6 ∷ [])
+      (λ e. rw (closed-same u (leb-false (g .n) u e)))
   sent-same long (Close u) =
       guarded (leb (g .n) u) (leb (g .n) u) refl (rule (hasClosed (getD (t .marks) u 0)) 7 ∷ []) (rule (isClosed h u) 7 ∷ [])
       (λ e. rw (closed-same u (leb-false (g .n) u e)))
@@ -68,8 +59,8 @@ module _ {h : History} {g : Graph} {t : Tables} (c : Consistent h g t) where
   unfolding refusal givenAfter
   same-refusal e x =
       append-same
-      (lent (given g (longEnough g t) (isFull g) (t .marks) (t .status))) (lent (givenAfter (g .n) (g .limit) h))
-      (sent (given g (longEnough g t) (isFull g) (t .marks) (t .status)) x) (sent (givenAfter (g .n) (g .limit) h) x)
+      (lent (given g (longEnough g t) (isFull g) (t .marks))) (lent (givenAfter (g .n) (g .limit) h))
+      (sent (given g (longEnough g t) (isFull g) (t .marks)) x) (sent (givenAfter (g .n) (g .limit) h) x)
       (rw (e, c .steps))
       (sent-same (longEnough g t) x)
     where

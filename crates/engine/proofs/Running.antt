@@ -6,19 +6,16 @@ use mathlib.Core.List.{List, _∷_}
 use mathlib.Core.Option.{some, none}
 use Prim.Native.Nat.{ℕ, _<_, _≤_}
 use native.Mathlib.Omega.{arith}
-use lib.Dec.{eqb}
 use lib.ListN.{getD}
 use borrow.Author.Tests.{lt-leb, le-ltb, ne-eqb}
 use Rattle.gid.specs.declared.Update.{Update}
 use Rattle.gid.specs.declared.Update.the-variants.{Step, Terminal, Close}
 use Rattle.gid.specs.Updates.{source}
 use Rattle.gid.specs.Histories.{History, Legal, IsClosed}
-use Rattle.gid.specs.Statuses.{isClosed, statusDead}
+use Rattle.gid.specs.Statuses.{isClosed}
 use Rattle.gid.specs.Refusals.{lent, sent, refusal, maxStates, maxSteps}
 use Rattle.gid.proofs.Decide.{refutes, refuted}
 use Rattle.gid.proofs.Tests.{decides-closed}
-use Rattle.gid.proofs.Deadness.{dead-closed}
-use Rattle.gid.proofs.Statuses.{status-dead-by-reach}
 use Rattle.tables.specs.declared.Graph.{Graph}
 use Rattle.tables.specs.Tables.{Tables, lengths, longEnough}
 use Rattle.tables.specs.Marks.{hasClosed}
@@ -57,12 +54,9 @@ pub record Sound (g₀ : Graph) (t₀ : Tables) (h : History) (g : Graph) (t : T
   pub sizes : lengths t ≡ lengths t₀
   pub room : g .steps ≤ g .limit
 
--- an update sent from a state that is not closed meets neither 6, 7 nor 8
+-- an update sent from a state that is not closed meets neither 6 nor 7
 pub unmarked : {h : History} {g : Graph} {t : Tables} → Consistent h g t → (u : ℕ) → u < g .n → (IsClosed h u → ⊥) → hasClosed (getD (t .marks) u 0) ≡ false
 unmarked {h} c u r o = rw (c .marks u r) (closed-bit h u ∙ refutes (isClosed h u) (decides-closed h u) o)
-
-pub undead : {h : History} {g : Graph} {t : Tables} → Consistent h g t → (u : ℕ) → u < g .n → (IsClosed h u → ⊥) → eqb (getD (t .status) u 0) statusDead ≡ false
-undead {h} {t = t} c u r o = ne-eqb (getD (t .status) u 0) statusDead (λ e. o (dead-closed (status-dead-by-reach h u .0 (sym (c .status u r) ∙ e))))
 
 module _ {g₀ : Graph} {t₀ : Tables} where
   -- a check in between keeps it
@@ -74,13 +68,13 @@ module _ {g₀ : Graph} {t₀ : Tables} where
   pub unclosed : {h : History} {g : Graph} {t : Tables} → Sound g₀ t₀ h g t → (x : Update) → refusalOn g t x ≡ none → IsClosed h (source x) → ⊥
   unclosed {h} {g} {t} s x e =
       let p = accepted-passes g t x e in
-      let q = sendable-of g (t .marks) (t .status) x (s .room) (p .1) in
+      let q = sendable-of g (t .marks) x (s .room) (p .1) in
       refuted (decides-closed h (source x)) (sym (closed-bit h (source x)) ∙ ap hasClosed (sym (s .fits .marks (source x) (in-range (g .n) (g .limit) (g .steps) x (q .0)))) ∙ q .1)
 
   pub sound-accepted : {h : History} {g g′ : Graph} {t t′ : Tables} {x : Update} {a : Answer} → Sound g₀ t₀ h g t → refusalOn g t x ≡ none → AcceptedUpdate g x t g′ t′ a → Sound g₀ t₀ (x ∷ h) g′ t′
   sound-accepted {h} {g} {g′} {t} {t′} {x} s e a =
       let q = accepted-passes g t x e in
-      let d = sendable-of g (t .marks) (t .status) x (s .room) (q .1) in
+      let d = sendable-of g (t .marks) x (s .room) (q .1) in
       record {
         legal = (s .legal, unclosed s x e);
         fits = a .fits h (s .legal) (s .fits) .0;
@@ -99,21 +93,21 @@ module _ {g₀ : Graph} {t₀ : Tables} where
   pub not-refused : {h : History} {g : Graph} {t : Tables} → Sound g₀ t₀ h g t → 0 < g .n → g .n ≤ maxStates → 0 < g .limit → g .limit ≤ maxSteps → longEnough g t ≡ true → (x : Update) → Sendable (g .n) (g .limit) (g .steps) x → (IsClosed h (source x) → ⊥) → refusalOn g t x ≡ none
   unfolding refusal
   not-refused {h} {g} {t} s a b c d e x r o =
-      first-none (lent (given g (longEnough g t) (isFull g) (t .marks) (t .status)))
-      (sent (given g (longEnough g t) (isFull g) (t .marks) (t .status)) x)
-      (none-applies (lent (given g (longEnough g t) (isFull g) (t .marks) (t .status))) (
+      first-none (lent (given g (longEnough g t) (isFull g) (t .marks)))
+      (sent (given g (longEnough g t) (isFull g) (t .marks)) x)
+      (none-applies (lent (given g (longEnough g t) (isFull g) (t .marks))) (
         rw (ne-eqb (g .n) 0 (λ z. absurd (omega arith))) (le-ltb maxStates (g .n) b),
         (
           rw (ne-eqb (g .limit) 0 (λ z. absurd (omega arith))) (le-ltb maxSteps (g .limit) d),
           (rw e refl, (le-ltb (g .limit) (g .steps) (s .room), tt)),
         ),
       )) ∙
-      none-applies (sent (given g (longEnough g t) (isFull g) (t .marks) (t .status)) x) (sents x r o)
+      none-applies (sent (given g (longEnough g t) (isFull g) (t .marks)) x) (sents x r o)
     where
-      sents : (y : Update) → Sendable (g .n) (g .limit) (g .steps) y → (IsClosed h (source y) → ⊥) → NoneApply (sent (given g (longEnough g t) (isFull g) (t .marks) (t .status)) y)
+      sents : (y : Update) → Sendable (g .n) (g .limit) (g .steps) y → (IsClosed h (source y) → ⊥) → NoneApply (sent (given g (longEnough g t) (isFull g) (t .marks)) y)
       sents (Step d) q n = (
         rw (lt-leb (g .n) (d .from) (q .0)) (lt-leb (g .n) (d .to) (q .1)),
-        (unmarked (s .fits) (d .from) (q .0) n, (undead (s .fits) (d .from) (q .0) n, (ne-eqb (g .steps) (g .limit) (λ z. absurd (omega (arith, q .2))), tt))),
+        (unmarked (s .fits) (d .from) (q .0) n, (ne-eqb (g .steps) (g .limit) (λ z. absurd (omega (arith, q .2))), tt)),
       )
-      sents (Terminal u) q n = (lt-leb (g .n) u q, (unmarked (s .fits) u q n, (undead (s .fits) u q n, tt)))
+      sents (Terminal u) q n = (lt-leb (g .n) u q, (unmarked (s .fits) u q n, tt))
       sents (Close u) q n = (lt-leb (g .n) u q, (unmarked (s .fits) u q n, tt))

@@ -2,7 +2,7 @@
 -- Assumes nothing.
 use mathlib.Core.Path.{_≡_, refl, sym, _∙_, ap, subst}
 use mathlib.Core.Bool.{true}
-use mathlib.Core.List.{List, [], _∷_}
+use mathlib.Core.List.{List, _∷_}
 use mathlib.Core.Option.{Option, some, none}
 use Prim.Native.Nat.{ℕ, _<_, _≤_}
 use native.Mathlib.Omega.{arith}
@@ -53,7 +53,7 @@ module _ {g₀ g₁ : Graph} {t₀ t₁ : Tables} (fresh₀ : Fresh g₀ t₀) (
   accepts-too {f} {p} {g} {g′} {t} {t′} c s s′ x e =
       let q = accepted-passes g t x e in
       let l = lent-leaves g (longEnough g t) (q .0) in
-      let d = sendable-of g (t .marks) (t .status) x (s .room) (q .1) in
+      let d = sendable-of g (t .marks) x (s .room) (q .1) in
       let n : g′ .n ≡ g .n = s′ .states ∙ states ∙ sym (s .states) in
       let m : g′ .limit ≡ g .limit = s′ .limit ∙ limits ∙ sym (s .limit) in
       let z : lengths t′ ≡ lengths t = s′ .sizes ∙ sizes ∙ sym (s .sizes) in

@@ -75,7 +75,7 @@ impl Engine {
                 answer: Answer::Refused(lent),
             };
         }
-        let sent = graph.sent(graph.is_full(), update, marks, status);
+        let sent = graph.sent(graph.is_full(), update, marks);
         if sent != 0 {
             return Updated {
                 engine: self,

@@ -1,4 +1,4 @@
--- The numbers 1 to 9: which updates are refused. Document 01, "Numbers by who causes them": "Tests run in rising order and the first that applies is given."
+-- The numbers 1 to 9, without 8 (document 02, #110): which updates are refused. Document 01, "Numbers by who causes them": "Tests run in rising order and the first that applies is given."
 -- Assumes nothing.
 use mathlib.Core.Bool.{Bool, not, cond, _||_}
 use mathlib.Core.List.{List, [], _∷_, _++_}
@@ -15,7 +15,7 @@ maxStates = 2048
 abbrev pub maxSteps : ℕ
 maxSteps = 8192
 
--- What a refusal turns on: the state value (n, the step limit, the number of steps), whether every table that the call is lent is long enough, whether the step list is full, and which states are marked closed and have the status dead.
+-- What a refusal turns on: the state value (n, the step limit, the number of steps), whether every table that the call is lent is long enough, whether the step list is full, and which states are marked closed.
 pub record Given : Type 0 where
   pub n : ℕ
   pub limit : ℕ
@@ -23,7 +23,6 @@ pub record Given : Type 0 where
   pub long : Bool
   pub full : Bool
   pub closed : ℕ → Bool
-  pub dead : ℕ → Bool
 
 -- A test with the number that it gives where it applies.
 pub record Rule : Type 0 where
@@ -48,12 +47,10 @@ abbrev pub sent : Given → Update → List Rule
 sent g (Step e) =
     record { applies = leb (g .n) (e .from) || leb (g .n) (e .to); number = 5 } ∷
     record { applies = g .closed (e .from); number = 6 } ∷
-    record { applies = g .dead (e .from); number = 8 } ∷
     record { applies = g .full; number = 9 } ∷ []
 sent g (Terminal u) =
     record { applies = leb (g .n) u; number = 5 } ∷
-    record { applies = g .closed u; number = 6 } ∷
-    record { applies = g .dead u; number = 8 } ∷ []
+    record { applies = g .closed u; number = 6 } ∷ []
 sent g (Close u) =
     record { applies = leb (g .n) u; number = 5 } ∷
     record { applies = g .closed u; number = 7 } ∷ []

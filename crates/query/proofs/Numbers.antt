@@ -40,8 +40,8 @@ lent-few : (g : Given) (l : List Rule) → AllFew l → AllFew (lent g ++ l)
 lent-few g l a = (omega arith, (omega arith, (omega arith, (omega arith, a))))
 
 sent-few : (g : Given) (x : Update) → AllFew (sent g x)
-sent-few g (Step e) = (omega arith, (omega arith, (omega arith, (omega arith, tt))))
-sent-few g (Terminal u) = (omega arith, (omega arith, (omega arith, tt)))
+sent-few g (Step e) = (omega arith, (omega arith, (omega arith, tt)))
+sent-few g (Terminal u) = (omega arith, (omega arith, tt))
 sent-few g (Close u) = (omega arith, (omega arith, tt))
 
 -- of an update,
@@ -49,7 +49,7 @@ answered-few : {g g′ : Graph} {x : Update} {t t′ : Tables} (line : ℕ) (a :
 unfolding refusal
 answered-few line (Yes k) p = tt
 answered-few {g} {x = x} {t = t} line (No k) p =
-    let v = given g (longEnough g t) (isFull g) (t .marks) (t .status) in
+    let v = given g (longEnough g t) (isFull g) (t .marks) in
     first-few (lent v ++ sent v x) (lent-few v (sent v x) (sent-few v x)) k (sym (p .number))
 
 -- of any line,
@@ -75,5 +75,5 @@ advances-few a = stops-few (a .follows .applied) (a .stops)
 -- and of the tables.
 pub open-few : (limit : ℕ) (t : Tables) (k : ℕ) → openRefusal limit t ≡ some k → k ≤ 12
 open-few limit t k e =
-    let v = given (readerGraph limit) (longEnough (readerGraph limit) t) false [] [] in
+    let v = given (readerGraph limit) (longEnough (readerGraph limit) t) false [] in
     first-few (lent v) (lent-few v [] tt) k e

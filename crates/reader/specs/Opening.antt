@@ -25,7 +25,7 @@ readerGraph limit = record { n = readerStates; limit = limit; steps = 0 }
 
 -- The number of the test 2 or 3, if it applies (1 and 4 never do).
 abbrev pub openRefusal : ℕ → Tables → Option ℕ
-openRefusal limit t = first (lent (given (readerGraph limit) (longEnough (readerGraph limit) t) false [] []))
+openRefusal limit t = first (lent (given (readerGraph limit) (longEnough (readerGraph limit) t) false []))
 
 -- The tables made fresh (proofs/Opening.antt: `opened-fresh`).
 abbrev pub freshened : ℕ → Tables → Tables

@@ -1,6 +1,7 @@
 -- The laws of the tables and of the refusals.
 pub mod Keeping
 pub mod Refusing
+pub mod Dead
 pub mod Sizes
 pub mod Bits
 pub mod Marking

@@ -56,29 +56,29 @@ lent-numbered : (g : Given) → Positive (lent g)
 lent-numbered g = (omega arith, (omega arith, (omega arith, (omega arith, tt))))
 
 sent-numbered : (g : Given) (x : Update) → Positive (sent g x)
-sent-numbered g (Step e) = (omega arith, (omega arith, (omega arith, (omega arith, tt))))
-sent-numbered g (Terminal u) = (omega arith, (omega arith, (omega arith, tt)))
+sent-numbered g (Step e) = (omega arith, (omega arith, (omega arith, tt)))
+sent-numbered g (Terminal u) = (omega arith, (omega arith, tt))
 sent-numbered g (Close u) = (omega arith, (omega arith, tt))
 
 -- The tests 5 to 9 do not turn on the tables' lengths.
-sent-any : (g : Graph) (long full : Bool) (marks status : List ℕ) (x : Update) → first (sent (given g long full marks status) x) ≡ first (sent (given g true full marks status) x)
-sent-any g long full marks status (Step e) = refl
-sent-any g long full marks status (Terminal u) = refl
-sent-any g long full marks status (Close u) = refl
+sent-any : (g : Graph) (long full : Bool) (marks : List ℕ) (x : Update) → first (sent (given g long full marks) x) ≡ first (sent (given g true full marks) x)
+sent-any g long full marks (Step e) = refl
+sent-any g long full marks (Terminal u) = refl
+sent-any g long full marks (Close u) = refl
 
 -- The tests 1 to 4 pass where the code's number is 0, and else give it.
-pub lent-passes : (g : Graph) (long full : Bool) (marks status : List ℕ) → lentNumber g long ≡ 0 → first (lent (given g long full marks status)) ≡ none
+pub lent-passes : (g : Graph) (long full : Bool) (marks : List ℕ) → lentNumber g long ≡ 0 → first (lent (given g long full marks)) ≡ none
 unfolding lentNumber
-lent-passes g long full marks status e = number-none (lent (given g long full marks status)) (lent-numbered (given g long full marks status)) e
+lent-passes g long full marks e = number-none (lent (given g long full marks)) (lent-numbered (given g long full marks)) e
 
-pub lent-refuses : (g : Graph) (long full : Bool) (marks status : List ℕ) (k : ℕ) → lentNumber g long ≡ k → (k ≡ 0 → ⊥) → first (lent (given g long full marks status)) ≡ some k
+pub lent-refuses : (g : Graph) (long full : Bool) (marks : List ℕ) (k : ℕ) → lentNumber g long ≡ k → (k ≡ 0 → ⊥) → first (lent (given g long full marks)) ≡ some k
 unfolding lentNumber
-lent-refuses g long full marks status k e n = number-some (first (lent (given g long full marks status))) k e n
+lent-refuses g long full marks k e n = number-some (first (lent (given g long full marks))) k e n
 
 -- The tests 5 to 9 pass where the code's number is 0.
-pub sent-passes : (g : Graph) (full : Bool) (marks status : List ℕ) (x : Update) → sentNumber g full marks status x ≡ 0 → first (sent (given g true full marks status) x) ≡ none
+pub sent-passes : (g : Graph) (full : Bool) (marks : List ℕ) (x : Update) → sentNumber g full marks x ≡ 0 → first (sent (given g true full marks) x) ≡ none
 unfolding sentNumber
-sent-passes g full marks status x e = number-none (sent (given g true full marks status) x) (sent-numbered (given g true full marks status) x) e
+sent-passes g full marks x e = number-none (sent (given g true full marks) x) (sent-numbered (given g true full marks) x) e
 
 -- Where there is no number, no rule applies.
 abbrev pub NoneApply : List Rule → Type 0
@@ -112,7 +112,7 @@ pub record Lent (g : Graph) (long : Bool) : Type 0 where
 
 pub lent-leaves : (g : Graph) (long : Bool) → lentNumber g long ≡ 0 → Lent g long
 lent-leaves g long e =
-    let p = passed (lent (given g long false [] [])) (lent-passes g long false [] [] e) in
+    let p = passed (lent (given g long false [])) (lent-passes g long false [] e) in
     let n = neither (eqb (g .n) 0) (ltb maxStates (g .n)) (p .0) in
     let l = neither (eqb (g .limit) 0) (ltb maxSteps (g .limit)) (p .1 .0) in
     let nz = eqb-false (g .n) 0 (n .0) in
@@ -130,11 +130,11 @@ module _ (g : Graph) (status : List ℕ) (s : ℕ) where
   pub status-refused : (k : ℕ) → lentNumber g (leb (g .n) (length status)) ≡ k → (k ≡ 0 → ⊥) → refused k ≡ statusAnswer g status s
   unfolding statusAnswer
   status-refused k e n =
-      rw (first-some (lent (given g (leb (g .n) (length status)) false [] status)) (record { applies = leb (g .n) s; number = 5 } ∷ []) k (lent-refuses g (leb (g .n) (length status)) false [] status k e n))
+      rw (first-some (lent (given g (leb (g .n) (length status)) false [])) (record { applies = leb (g .n) s; number = 5 } ∷ []) k (lent-refuses g (leb (g .n) (length status)) false [] k e n))
 
   module _ (e : lentNumber g (leb (g .n) (length status)) ≡ 0) where
     passes : first (statusRules g status s) ≡ first (record { applies = leb (g .n) s; number = 5 } ∷ [])
-    passes = first-none (lent (given g (leb (g .n) (length status)) false [] status)) (record { applies = leb (g .n) s; number = 5 } ∷ []) (lent-passes g (leb (g .n) (length status)) false [] status e)
+    passes = first-none (lent (given g (leb (g .n) (length status)) false [])) (record { applies = leb (g .n) s; number = 5 } ∷ []) (lent-passes g (leb (g .n) (length status)) false [] e)
 
     pub status-range : leb (g .n) s ≡ true → refused 5 ≡ statusAnswer g status s
     unfolding statusAnswer
@@ -149,26 +149,26 @@ module _ (g : Graph) (t : Tables) (x : Update) where
   pub refused-lent : (k : ℕ) → lentNumber g (longEnough g t) ≡ k → (k ≡ 0 → ⊥) → refusalOn g t x ≡ some k
   unfolding refusal
   refused-lent k e n =
-      first-some (lent (given g (longEnough g t) (isFull g) (t .marks) (t .status)))
-      (sent (given g (longEnough g t) (isFull g) (t .marks) (t .status)) x) k
-      (lent-refuses g (longEnough g t) (isFull g) (t .marks) (t .status) k e n)
+      first-some (lent (given g (longEnough g t) (isFull g) (t .marks)))
+      (sent (given g (longEnough g t) (isFull g) (t .marks)) x) k
+      (lent-refuses g (longEnough g t) (isFull g) (t .marks) k e n)
 
   module _ (e : lentNumber g (longEnough g t) ≡ 0) where
-    sent-half : refusalOn g t x ≡ first (sent (given g true (isFull g) (t .marks) (t .status)) x)
+    sent-half : refusalOn g t x ≡ first (sent (given g true (isFull g) (t .marks)) x)
     unfolding refusal
     sent-half =
-        first-none (lent (given g (longEnough g t) (isFull g) (t .marks) (t .status)))
-        (sent (given g (longEnough g t) (isFull g) (t .marks) (t .status)) x)
-        (lent-passes g (longEnough g t) (isFull g) (t .marks) (t .status) e) ∙
-        sent-any g (longEnough g t) (isFull g) (t .marks) (t .status) x
+        first-none (lent (given g (longEnough g t) (isFull g) (t .marks)))
+        (sent (given g (longEnough g t) (isFull g) (t .marks)) x)
+        (lent-passes g (longEnough g t) (isFull g) (t .marks) e) ∙
+        sent-any g (longEnough g t) (isFull g) (t .marks) x
 
-    pub refused-sent : (k : ℕ) → sentNumber g (isFull g) (t .marks) (t .status) x ≡ k → (k ≡ 0 → ⊥) → refusalOn g t x ≡ some k
+    pub refused-sent : (k : ℕ) → sentNumber g (isFull g) (t .marks) x ≡ k → (k ≡ 0 → ⊥) → refusalOn g t x ≡ some k
     unfolding sentNumber
-    refused-sent k q n = sent-half ∙ number-some (first (sent (given g true (isFull g) (t .marks) (t .status)) x)) k q n
+    refused-sent k q n = sent-half ∙ number-some (first (sent (given g true (isFull g) (t .marks)) x)) k q n
 
-    pub accepted : sentNumber g (isFull g) (t .marks) (t .status) x ≡ 0 → refusalOn g t x ≡ none
+    pub accepted : sentNumber g (isFull g) (t .marks) x ≡ 0 → refusalOn g t x ≡ none
     unfolding sentNumber
-    accepted q = sent-half ∙ number-none (sent (given g true (isFull g) (t .marks) (t .status)) x) (sent-numbered (given g true (isFull g) (t .marks) (t .status)) x) q
+    accepted q = sent-half ∙ number-none (sent (given g true (isFull g) (t .marks)) x) (sent-numbered (given g true (isFull g) (t .marks)) x) q
 
 split-none : (l m : List Rule) → first (l ++ m) ≡ none → (first l ≡ none) × (first m ≡ none)
 split-none [] m e = (refl, e)
@@ -179,8 +179,8 @@ split-none (r ∷ l) m e = at (r .applies) e (split-none l m)
     at false q i = i q
 
 -- An accepted update has passed the tests 1 to 4 and the tests 5 to 9.
-pub accepted-passes : (g : Graph) (t : Tables) (x : Update) → refusalOn g t x ≡ none → (lentNumber g (longEnough g t) ≡ 0) × (sentNumber g (isFull g) (t .marks) (t .status) x ≡ 0)
+pub accepted-passes : (g : Graph) (t : Tables) (x : Update) → refusalOn g t x ≡ none → (lentNumber g (longEnough g t) ≡ 0) × (sentNumber g (isFull g) (t .marks) x ≡ 0)
 unfolding refusal lentNumber sentNumber
 accepted-passes g t x e =
-    let p = split-none (lent (given g (longEnough g t) (isFull g) (t .marks) (t .status))) (sent (given g (longEnough g t) (isFull g) (t .marks) (t .status)) x) e in
-    (ap number (p .0), ap number (sym (sent-any g (longEnough g t) (isFull g) (t .marks) (t .status) x) ∙ p .1))
+    let p = split-none (lent (given g (longEnough g t) (isFull g) (t .marks))) (sent (given g (longEnough g t) (isFull g) (t .marks)) x) e in
+    (ap number (p .0), ap number (sym (sent-any g (longEnough g t) (isFull g) (t .marks) x) ∙ p .1))

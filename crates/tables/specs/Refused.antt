@@ -7,7 +7,6 @@ use Prim.Native.Nat.{ℕ}
 use lib.Dec.{leb, eqb}
 use lib.ListN.{length, getD}
 use Rattle.gid.specs.declared.Update.{Update}
-use Rattle.gid.specs.Statuses.{statusDead}
 use Rattle.gid.specs.Refusals.{Given, Rule, first, lent, sent, refusal}
 use Rattle.gid.specs.Outcomes.{Outcome, refused, accepted, byNumber}
 use Rattle.tables.specs.declared.Graph.{Graph}
@@ -21,8 +20,8 @@ abbrev pub isFull : Graph → Bool
 isFull g = eqb (g .steps) (g .limit)
 
 -- A state value with what the tables say, where `long` says whether the tables that the call is lent are long enough, and `full` whether a step finds no place.
-abbrev pub given : Graph → Bool → Bool → List ℕ → List ℕ → Given
-given g long full marks status =
+abbrev pub given : Graph → Bool → Bool → List ℕ → Given
+given g long full marks =
     record {
       n = g .n;
       limit = g .limit;
@@ -30,12 +29,11 @@ given g long full marks status =
       long = long;
       full = full;
       closed = λ s. hasClosed (getD marks s 0);
-      dead = λ s. eqb (getD status s 0) statusDead;
     }
 
 -- The number with which an update is refused on these tables, or none.
 abbrev pub refusalOn : Graph → Tables → Update → Option ℕ
-refusalOn g t x = refusal (given g (longEnough g t) (isFull g) (t .marks) (t .status)) x
+refusalOn g t x = refusal (given g (longEnough g t) (isFull g) (t .marks)) x
 
 -- A number as the code has it: 0 for none.
 abbrev pub number : Option ℕ → ℕ
@@ -44,14 +42,14 @@ number (some k) = k
 
 -- The tests 1 to 4, and the tests 5 to 9, by themselves.
 unfoldable pub lentNumber : Graph → Bool → ℕ
-lentNumber g long = number (first (lent (given g long false [] [])))
+lentNumber g long = number (first (lent (given g long false [])))
 
-unfoldable pub sentNumber : Graph → Bool → List ℕ → List ℕ → Update → ℕ
-sentNumber g full marks status x = number (first (sent (given g true full marks status) x))
+unfoldable pub sentNumber : Graph → Bool → List ℕ → Update → ℕ
+sentNumber g full marks x = number (first (sent (given g true full marks) x))
 
 -- The status question: "tests 1 to 5", and then the state's byte. "Test 3 covers the tables that the call in hand is lent": the status table.
 abbrev pub statusRules : Graph → List ℕ → ℕ → List Rule
-statusRules g status s = lent (given g (leb (nodesOf g) (length status)) false [] status) ++ (record { applies = leb (g .n) s; number = 5 } ∷ [])
+statusRules g status s = lent (given g (leb (nodesOf g) (length status)) false []) ++ (record { applies = leb (g .n) s; number = 5 } ∷ [])
 
 -- Document 01's number and value for each answer of the status question.
 abbrev pub statusOutcome : Status → Outcome ℕ

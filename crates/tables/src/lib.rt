@@ -1,5 +1,6 @@
 // What the engine is handed, and what it refuses: the state value, the caller's tables, the numbers 1 to 9, the mark bits, and the status question.
 ghost use mathlib.Core.Path.{_≡_};
+ghost use mathlib.Core.Bool.{Bool};
 ghost use Prim.Native.Nat.{_≤_, _<_};
 ghost use lib.ListN.{length};
 ghost use Rattle.tables.specs.Refused.{isFull, lentNumber, sentNumber, statusOutcome, statusAnswer};
@@ -63,8 +64,6 @@ pub const CLOSED_SOURCE: u8 = 6;
 
 pub const CLOSED_AGAIN: u8 = 7;
 
-pub const DEAD_SOURCE: u8 = 8;
-
 pub const LIST_FULL: u8 = 9;
 
 // The small state value of document 01: it goes into each update and comes back.
@@ -124,20 +123,20 @@ impl Graph {
     }
 
     // The number of the first of the tests 5 to 9 that applies to an update, or 0. `full`: a step finds no place.
-    pub fn sent(self, full: bool, update: Update, marks: &[u8], status: &[u8]) -> u8
-        requires { ⌜ (self .n ≤ length (now marks)) × (self .n ≤ length (now status)) ⌝ }
-        ensures { λ r. ⌜ r ≡ sentNumber self full (now (marks .entry)) (now (status .entry)) update ⌝ }
+    pub fn sent(self, full: bool, update: Update, marks: &[u8]) -> u8
+        requires { ⌜ self .n ≤ length (now marks) ⌝ }
+        ensures { λ r. ⌜ r ≡ sentNumber self full (now (marks .entry)) update ⌝ }
     {
         match update {
-            Update::Step { edge } => self.sent_step(full, edge, marks, status),
-            Update::Terminal { state } => self.sent_terminal(full, state, marks, status),
-            Update::Close { state } => self.sent_close(full, state, marks, status),
+            Update::Step { edge } => self.sent_step(full, edge, marks),
+            Update::Terminal { state } => self.sent_terminal(state, marks),
+            Update::Close { state } => self.sent_close(state, marks),
         }
     }
 
-    fn sent_step(self, full: bool, edge: Edge, marks: &[u8], status: &[u8]) -> u8
-        requires { ⌜ (self .n ≤ length (now marks)) × (self .n ≤ length (now status)) ⌝ }
-        ensures { λ r. ⌜ r ≡ sentNumber self full (now (marks .entry)) (now (status .entry)) (Update.Step edge) ⌝ }
+    fn sent_step(self, full: bool, edge: Edge, marks: &[u8]) -> u8
+        requires { ⌜ self .n ≤ length (now marks) ⌝ }
+        ensures { λ r. ⌜ r ≡ sentNumber self full (now (marks .entry)) (Update.Step edge) ⌝ }
     {
         let from = edge.from;
         if self.n <= from {
@@ -149,18 +148,16 @@ impl Graph {
         if has_closed(marks[from]) {
             return CLOSED_SOURCE;
         }
-        if status[from] == DEAD {
-            return DEAD_SOURCE;
-        }
         if full {
             return LIST_FULL;
         }
         0
     }
 
-    fn sent_terminal(self, full: bool, state: usize, marks: &[u8], status: &[u8]) -> u8
-        requires { ⌜ (self .n ≤ length (now marks)) × (self .n ≤ length (now status)) ⌝ }
-        ensures { λ r. ⌜ r ≡ sentNumber self full (now (marks .entry)) (now (status .entry)) (Update.Terminal state) ⌝ }
+    // A terminal mark and a close take no place: what they get does not turn on whether a step finds one.
+    fn sent_terminal(self, state: usize, marks: &[u8]) -> u8
+        requires { ⌜ self .n ≤ length (now marks) ⌝ }
+        ensures { λ r. ⌜ ((full : Bool) → r ≡ sentNumber self full (now (marks .entry)) (Update.Terminal state)) ⌝ }
     {
         if self.n <= state {
             return OUT_OF_RANGE;
@@ -168,15 +165,12 @@ impl Graph {
         if has_closed(marks[state]) {
             return CLOSED_SOURCE;
         }
-        if status[state] == DEAD {
-            return DEAD_SOURCE;
-        }
         0
     }
 
-    fn sent_close(self, full: bool, state: usize, marks: &[u8], status: &[u8]) -> u8
-        requires { ⌜ (self .n ≤ length (now marks)) × (self .n ≤ length (now status)) ⌝ }
-        ensures { λ r. ⌜ r ≡ sentNumber self full (now (marks .entry)) (now (status .entry)) (Update.Close state) ⌝ }
+    fn sent_close(self, state: usize, marks: &[u8]) -> u8
+        requires { ⌜ self .n ≤ length (now marks) ⌝ }
+        ensures { λ r. ⌜ ((full : Bool) → r ≡ sentNumber self full (now (marks .entry)) (Update.Close state)) ⌝ }
     {
         if self.n <= state {
             return OUT_OF_RANGE;

@@ -13,13 +13,12 @@ use Rattle.gid.specs.declared.Update.{Update}
 use Rattle.gid.specs.declared.Update.the-variants.{Step, Terminal, Close}
 use Rattle.gid.specs.Updates.{source, Mentions}
 use Rattle.gid.specs.Histories.{History, IsClosed, Legal, following, added, listed}
-use Rattle.gid.specs.Statuses.{isClosed, isDead}
+use Rattle.gid.specs.Statuses.{isClosed}
 use Rattle.gid.specs.News.{news}
 use Rattle.gid.specs.Refusals.{lent, sent, refusal, maxSteps}
 use Rattle.gid.specs.Outcomes.{accepted, givenAfter, outcome, after}
 use Rattle.gid.proofs.Decide.{refutes}
-use Rattle.gid.proofs.Tests.{decides-closed, decides-dead}
-use Rattle.gid.proofs.Deadness.{dead-closed}
+use Rattle.gid.proofs.Tests.{decides-closed}
 use Rattle.tables.proofs.Refusing.{NoneApply, none-applies, first-none}
 use Rattle.reader.specs.Opening.{readerStates, readerGraph}
 use Rattle.reader.specs.Replaying.{afterItems, firstRefusal}
@@ -40,7 +39,7 @@ fewer-before h [] = omega arith
 fewer-before h (x ∷ l) = omega (arith, length-append (listed h) (added x), fewer-before (x ∷ h) l)
 
 module _ (limit : ℕ) (some-limit : 0 < limit) (low : limit ≤ maxSteps) where
-  -- no test applies to an update from a state that is not closed: a dead one is
+  -- no test applies to an update from a state that is not closed
   unrefused : (h : History) (x : Update) → StatesBelow readerStates x → (IsClosed h (source x) → ⊥) → length (listed (x ∷ h)) ≤ limit → refusal (givenAfter readerStates limit h) x ≡ none
   unfolding refusal givenAfter listed
   unrefused h x r o c = first-none (lent (givenAfter readerStates limit h)) (sent (givenAfter readerStates limit h) x) (none-applies (lent (givenAfter readerStates limit h)) (lent-passed (fewer-before h (x ∷ [])))) ∙ none-applies (sent (givenAfter readerStates limit h) x) (sent-passed x r o c)
@@ -51,12 +50,9 @@ module _ (limit : ℕ) (some-limit : 0 < limit) (low : limit ≤ maxSteps) where
       unclosed : (u : ℕ) → (IsClosed h u → ⊥) → isClosed h u ≡ false
       unclosed u n = refutes (isClosed h u) (decides-closed h u) n
 
-      undead : (u : ℕ) → (IsClosed h u → ⊥) → isDead h u ≡ false
-      undead u n = refutes (isDead h u) (decides-dead h u) (λ d. n (dead-closed d))
-
       sent-passed : (y : Update) → StatesBelow readerStates y → (IsClosed h (source y) → ⊥) → length (listed (y ∷ h)) ≤ limit → NoneApply (sent (givenAfter readerStates limit h) y)
-      sent-passed (Step e) q n k = (rw (lt-leb readerStates (e .from) (q (e .from) (inl refl)), lt-leb readerStates (e .to) (q (e .to) (inr refl))), (unclosed (e .from) n, (undead (e .from) n, (ne-eqb (length (listed h)) limit (λ z. omega (arith, length-append (listed h) (e ∷ []))), tt))))
-      sent-passed (Terminal u) q n k = (lt-leb readerStates u (q u refl), (unclosed u n, (undead u n, tt)))
+      sent-passed (Step e) q n k = (rw (lt-leb readerStates (e .from) (q (e .from) (inl refl)), lt-leb readerStates (e .to) (q (e .to) (inr refl))), (unclosed (e .from) n, (ne-eqb (length (listed h)) limit (λ z. omega (arith, length-append (listed h) (e ∷ []))), tt)))
+      sent-passed (Terminal u) q n k = (lt-leb readerStates u (q u refl), (unclosed u n, tt))
       sent-passed (Close u) q n k = (lt-leb readerStates u (q u refl), (unclosed u n, tt))
 
   accepts : (h : History) (x : Update) → refusal (givenAfter readerStates limit h) x ≡ none → (outcome readerStates limit h x ≡ accepted (news readerStates h x)) × (after readerStates limit h x ≡ x ∷ h)

@@ -40,7 +40,7 @@ module _ (g : Graph) (marks from to : List ℕ) where
   module _ (buf : List ℕ) (at : ℕ) where
     -- The numbers 1 to 4 and 13, by rising number.
     abbrev pub writeRules : List Rule
-    writeRules = lent (given g allLong false [] []) ++ (record { applies = short buf at (length theRecord); number = 13 } ∷ [])
+    writeRules = lent (given g allLong false []) ++ (record { applies = short buf at (length theRecord); number = 13 } ∷ [])
 
     -- The answer: the number of the first test that applies, or the place after the record.
     unfoldable pub writeAnswer : Outcome ℕ

@@ -17,8 +17,11 @@ use Rattle.engine.proofs.Engine.update.Tie as tie
 abbrev start : tie.After-lent → tie.Start
 start c = c .before .before .before .before .before .before .before .before .before .before .before .before .before .before .before .before
 
+abbrev at-passed : tie.Else2 → tie.Else1
+at-passed c = c .before .before .before .before
+
 abbrev at-lent : tie.Else2 → tie.After-lent
-at-lent c = c .before .before .before .before .before .before
+at-lent c = at-passed c .before
 
 abbrev at-sent : tie.After-list → tie.Else2
 at-sent c = c .before .before .before .before .before .before .before
@@ -58,16 +61,16 @@ room : (c : tie.Else1) → let l = c .before in Room (graph l .n) (graph l .n) (
 room c = room-of (graph (c .before)) (tables (c .before)) (passed c)
 
 -- The tests 5 to 9.
-sent-is : (c : tie.After-sent) → let l = c .before .before .before .before .before in sentNumber (graph l) (isFull (graph l)) (tables l .marks) (tables l .status) (start l .args .update) ≡ c .sent .result
-sent-is c = sym (rw (c .before .before .before .is-full .ensures) at (c .sent .ensures))
+sent-is : (c : tie.After-sent) → let l = c .before .before .before .before in sentNumber (graph l) (isFull (graph l)) (tables l .marks) (start l .args .update) ≡ c .sent .result
+sent-is c = sym (rw (c .before .before .is-full .ensures) at (c .sent .ensures))
 
-sent : (c : tie.Else2) → let l = at-lent c in sentNumber (graph l) (isFull (graph l)) (tables l .marks) (tables l .status) (start l .args .update) ≡ 0
+sent : (c : tie.Else2) → let l = at-lent c in sentNumber (graph l) (isFull (graph l)) (tables l .marks) (start l .args .update) ≡ 0
 sent c = sent-is (c .before) ∙ c .if2 .left
 
 sendable : (c : tie.Else2) → let l = at-lent c in Sendable (graph l .n) (graph l .limit) (graph l .steps) (start l .args .update)
 sendable c =
     let l = at-lent c in
-    sendable-of (graph l) (tables l .marks) (tables l .status) (start l .args .update) (room (c .before .before .before .before .before) .steps) (sent c) .0
+    sendable-of (graph l) (tables l .marks) (start l .args .update) (room (at-passed c) .steps) (sent c) .0
 
 nodes-requires : tie.Need-nodes-requires
 nodes-requires c κs = search needs
@@ -87,28 +90,25 @@ is-full-requires : tie.Need-is-full-requires
 is-full-requires c κs = search needs
 
 sent-requires : tie.Need-sent-requires
-sent-requires c κs = let r = room (c .before .before .before) in (r .long .marks, r .long .status)
+sent-requires c κs = room (c .before .before) .long .marks
 
 same-length : tie.Need-same-length
 same-length c = refl
 
-same-length-2 : tie.Need-same-length-2
-same-length-2 c = refl
-
 returns-2 : tie.Need-returns-2
 returns-2 c =
-    let e = c .before .before .before .before .before in
+    let e = c .before .before .before .before in
     let l = e .before in
     sent-kept (graph l) (start l .args .update) (tables l) (passed e) (c .before .sent .result) (sent-is (c .before)) (c .if2 .taken)
 
 list-requires : tie.Need-list-requires
-list-requires c κs = let d = c .before .before .before .before .before .before in listable (room (d .before .before .before .before .before)) (start (at-lent d) .args .update) (sendable d)
+list-requires c κs = let d = c .before .before .before .before .before .before in listable (room (at-passed d)) (start (at-lent d) .args .update) (sendable d)
 
 mark-requires : tie.Need-mark-requires
-mark-requires c κs = let d = at-sent (c .before .before .before .before .before .before .before .before .before .before .before .before .before .before) in markable (room (d .before .before .before .before .before)) (start (at-lent d) .args .update) (sendable d)
+mark-requires c κs = let d = at-sent (c .before .before .before .before .before .before .before .before .before .before .before .before .before .before) in markable (room (at-passed d)) (start (at-lent d) .args .update) (sendable d)
 
 after-requires : tie.Need-after-requires
-after-requires c κs = let r = room (at-sent (at-listed (c .before .before .before .before)) .before .before .before .before .before) in omega (arith, r .steps, r .bound)
+after-requires c κs = let r = room (at-passed (at-sent (at-listed (c .before .before .before .before)))) in omega (arith, r .steps, r .bound)
 
 judge-requires : tie.Need-judge-requires
 judge-requires c κs =
@@ -118,7 +118,7 @@ judge-requires c κs =
     let d = at-sent i in
     let l = at-lent d in
     let a = start l .args in
-    let r = room (d .before .before .before .before .before) in
+    let r = room (at-passed d) in
     let walk = walkable r (a .update) (sendable d) in
     let w = i .list .kept in
     let q = ap (λ (e : Graph). e .steps) (f .after .ensures) in (
@@ -132,41 +132,41 @@ judge-requires c κs =
       ),
     )
 
+same-length-2 : tie.Need-same-length-2
+same-length-2 c = c .before .before .before .before .before .before .before .before .before .before .judge .kept .1 .1 .1 .0 ∙ at-mark (c .before .before .before .before .before .before .before .before .before .before) .mark .kept .1 .0
+
 same-length-3 : tie.Need-same-length-3
-same-length-3 c = c .before .before .before .before .before .before .before .before .before .before .judge .kept .1 .1 .1 .0 ∙ at-mark (c .before .before .before .before .before .before .before .before .before .before) .mark .kept .1 .0
+same-length-3 c = at-mark (c .before .before .before .before .before .before .before .before .before .before) .mark .kept .1 .1 .0
 
 same-length-4 : tie.Need-same-length-4
-same-length-4 c = at-mark (c .before .before .before .before .before .before .before .before .before .before) .mark .kept .1 .1 .0
+same-length-4 c = at-list (c .before .before .before .before .before .before .before .before .before .before) .list .kept .1 .1 .0
 
 same-length-5 : tie.Need-same-length-5
-same-length-5 c = at-list (c .before .before .before .before .before .before .before .before .before .before) .list .kept .1 .1 .0
+same-length-5 c = at-list (c .before .before .before .before .before .before .before .before .before .before) .list .kept .1 .1 .1 .0
 
 same-length-6 : tie.Need-same-length-6
-same-length-6 c = at-list (c .before .before .before .before .before .before .before .before .before .before) .list .kept .1 .1 .1 .0
+same-length-6 c = c .before .before .before .before .before .before .before .before .before .before .judge .kept .1 .1 .1 .1 .1 .1 .0
 
 same-length-7 : tie.Need-same-length-7
-same-length-7 c = c .before .before .before .before .before .before .before .before .before .before .judge .kept .1 .1 .1 .1 .1 .1 .0
+same-length-7 c = c .before .before .before .before .before .before .before .before .before .before .judge .kept .1 .1 .1 .1 .1 .1 .1 .0
 
 same-length-8 : tie.Need-same-length-8
-same-length-8 c = c .before .before .before .before .before .before .before .before .before .before .judge .kept .1 .1 .1 .1 .1 .1 .1 .0
+same-length-8 c = at-list (c .before .before .before .before .before .before .before .before .before .before) .list .kept .1 .1 .1 .1 .0
 
 same-length-9 : tie.Need-same-length-9
-same-length-9 c = at-list (c .before .before .before .before .before .before .before .before .before .before) .list .kept .1 .1 .1 .1 .0
+same-length-9 c = at-list (c .before .before .before .before .before .before .before .before .before .before) .list .kept .1 .1 .1 .1 .1 .0
 
 same-length-10 : tie.Need-same-length-10
-same-length-10 c = at-list (c .before .before .before .before .before .before .before .before .before .before) .list .kept .1 .1 .1 .1 .1 .0
+same-length-10 c = c .before .before .before .before .before .before .before .before .before .before .judge .kept .1 .1 .1 .1 .1 .1 .1 .1 .1 .1 .0
 
 same-length-11 : tie.Need-same-length-11
-same-length-11 c = c .before .before .before .before .before .before .before .before .before .before .judge .kept .1 .1 .1 .1 .1 .1 .1 .1 .1 .1 .0
+same-length-11 c = c .before .before .before .before .before .before .before .before .before .before .judge .kept .1 .1 .1 .1 .1 .1 .1 .1 .1 .1 .1 .0
 
 same-length-12 : tie.Need-same-length-12
-same-length-12 c = c .before .before .before .before .before .before .before .before .before .before .judge .kept .1 .1 .1 .1 .1 .1 .1 .1 .1 .1 .1 .0
+same-length-12 c = at-list (c .before .before .before .before .before .before .before .before .before .before) .list .kept .1 .1 .1 .1 .1 .1 .0
 
 same-length-13 : tie.Need-same-length-13
-same-length-13 c = at-list (c .before .before .before .before .before .before .before .before .before .before) .list .kept .1 .1 .1 .1 .1 .1 .0
-
-same-length-14 : tie.Need-same-length-14
-same-length-14 c = at-list (c .before .before .before .before .before .before .before .before .before .before) .list .kept .1 .1 .1 .1 .1 .1 .1 .0
+same-length-13 c = at-list (c .before .before .before .before .before .before .before .before .before .before) .list .kept .1 .1 .1 .1 .1 .1 .1 .0
 
 returns-3 : tie.Need-returns-3
 returns-3 c =
@@ -178,7 +178,7 @@ returns-3 c =
     let l = at-lent d in
     let a = start l .args in
     rw (f .after .ensures)
-    (done-kept (graph l) (a .update) (tables l) (passed (d .before .before .before .before .before)) (sent d)
+    (done-kept (graph l) (a .update) (tables l) (passed (at-passed d)) (sent d)
     (done-of (tables l) _ (a .update) (k .mark .ensures .1) (i .list .ensures) (ap (λ (e : Graph). e .steps) (f .after .ensures)) (k .mark .ensures .0) (j .judge .ensures)))
 
 pub update-spec : {M : Type 1} → statement M
@@ -192,12 +192,12 @@ update-spec =
     is-full-requires
     sent-requires
     same-length
-    same-length-2
     returns-2
     list-requires
     mark-requires
     after-requires
     judge-requires
+    same-length-2
     same-length-3
     same-length-4
     same-length-5
@@ -209,5 +209,4 @@ update-spec =
     same-length-11
     same-length-12
     same-length-13
-    same-length-14
     returns-3)

@@ -1,5 +1,5 @@
 use mathlib.Core.Path.{sym, _∙_}
-use borrow.Author.Tests.{eq-eqb, ne-eqb, le-leb, lt-leb}
+use borrow.Author.Tests.{le-leb, lt-leb}
 use Rattle.tables.specs.Refused.{sentNumber}
 use borrow.Author.Needs.{needs}
 use Rattle.tables.proofs.Graph.sent_step.Statement.{statement}
@@ -23,20 +23,13 @@ returns-3 : tie.Need-returns-3
 unfolding sentNumber
 returns-3 c = simp (lt-leb _ _ (c .before .before .before .before .before .before .if1 .left), lt-leb _ _ (c .before .before .before .if2 .left), sym (c .before .has-closed .ensures) ∙ c .if3 .taken)
 
-shared-slice-read-if4 : tie.Need-shared-slice-read-if4
-shared-slice-read-if4 c = search needs
-
 returns-4 : tie.Need-returns-4
 unfolding sentNumber
-returns-4 c = simp (lt-leb _ _ (c .before .before .before .before .before .before .before .before .if1 .left), lt-leb _ _ (c .before .before .before .before .before .if2 .left), sym (c .before .before .before .has-closed .ensures) ∙ c .before .before .if3 .left, eq-eqb _ _ (c .if4 .taken))
+returns-4 c = simp (lt-leb _ _ (c .before .before .before .before .before .before .before .if1 .left), lt-leb _ _ (c .before .before .before .before .if2 .left), sym (c .before .before .has-closed .ensures) ∙ c .before .if3 .left, c .if4 .taken)
 
 returns-5 : tie.Need-returns-5
 unfolding sentNumber
-returns-5 c = simp (lt-leb _ _ (c .before .before .before .before .before .before .before .before .before .if1 .left), lt-leb _ _ (c .before .before .before .before .before .before .if2 .left), sym (c .before .before .before .before .has-closed .ensures) ∙ c .before .before .before .if3 .left, ne-eqb _ _ (c .before .if4 .left), c .if5 .taken)
-
-returns-6 : tie.Need-returns-6
-unfolding sentNumber
-returns-6 c = simp (lt-leb _ _ (c .before .before .before .before .before .before .before .before .before .if1 .left), lt-leb _ _ (c .before .before .before .before .before .before .if2 .left), sym (c .before .before .before .before .has-closed .ensures) ∙ c .before .before .before .if3 .left, ne-eqb _ _ (c .before .if4 .left), c .if5 .left)
+returns-5 c = simp (lt-leb _ _ (c .before .before .before .before .before .before .before .if1 .left), lt-leb _ _ (c .before .before .before .before .if2 .left), sym (c .before .before .has-closed .ensures) ∙ c .before .if3 .left, c .if4 .left)
 
 pub sent-step-spec : {M : Type 1} → statement M
 sent-step-spec =
@@ -47,7 +40,5 @@ sent-step-spec =
     shared-slice-read-has-closed
     has-closed-requires
     returns-3
-    shared-slice-read-if4
     returns-4
-    returns-5
-    returns-6)
+    returns-5)

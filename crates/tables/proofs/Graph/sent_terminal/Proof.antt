@@ -1,5 +1,5 @@
 use mathlib.Core.Path.{sym, _∙_}
-use borrow.Author.Tests.{eq-eqb, ne-eqb, le-leb, lt-leb}
+use borrow.Author.Tests.{le-leb, lt-leb}
 use Rattle.tables.specs.Refused.{sentNumber}
 use borrow.Author.Needs.{needs}
 use Rattle.tables.proofs.Graph.sent_terminal.Statement.{statement}
@@ -10,7 +10,7 @@ use Rattle.tables.proofs.marks.has_closed.Reads as has-closed-reads
 
 returns : tie.Need-returns
 unfolding sentNumber
-returns c = simp (le-leb _ _ (c .if1 .taken))
+returns c full = simp (le-leb _ _ (c .if1 .taken))
 
 shared-slice-read-has-closed : tie.Need-shared-slice-read-has-closed
 shared-slice-read-has-closed c = search needs
@@ -20,27 +20,13 @@ has-closed-requires c κs = search needs
 
 returns-2 : tie.Need-returns-2
 unfolding sentNumber
-returns-2 c = simp (lt-leb _ _ (c .before .before .before .if1 .left), sym (c .before .has-closed .ensures) ∙ c .if2 .taken)
-
-shared-slice-read-if3 : tie.Need-shared-slice-read-if3
-shared-slice-read-if3 c = search needs
+returns-2 c full = simp (lt-leb _ _ (c .before .before .before .if1 .left), sym (c .before .has-closed .ensures) ∙ c .if2 .taken)
 
 returns-3 : tie.Need-returns-3
 unfolding sentNumber
-returns-3 c = simp (lt-leb _ _ (c .before .before .before .before .before .if1 .left), sym (c .before .before .before .has-closed .ensures) ∙ c .before .before .if2 .left, eq-eqb _ _ (c .if3 .taken))
-
-returns-4 : tie.Need-returns-4
-unfolding sentNumber
-returns-4 c = simp (lt-leb _ _ (c .before .before .before .before .before .if1 .left), sym (c .before .before .before .has-closed .ensures) ∙ c .before .before .if2 .left, ne-eqb _ _ (c .if3 .left))
+returns-3 c full = simp (lt-leb _ _ (c .before .before .before .if1 .left), sym (c .before .has-closed .ensures) ∙ c .if2 .left)
 
 pub sent-terminal-spec : {M : Type 1} → statement M
 sent-terminal-spec =
     tie.close
-    (tie.spec
-    returns
-    shared-slice-read-has-closed
-    has-closed-requires
-    returns-2
-    shared-slice-read-if3
-    returns-3
-    returns-4)
+    (tie.spec returns shared-slice-read-has-closed has-closed-requires returns-2 returns-3)
