@@ -84,7 +84,7 @@ module _ (g : Graph) (t : Tables) where
     fits = facts-fit g t (long-enough .from) (long-enough .to)
 
     none-refused : (k : ℕ) → auditRefusal g t ≡ some k → ⊥
-    none-refused k e = let p = lent-passes g (enough (checkNeeds (g .n) (nodesOf g) (g .limit) (lengths t))) false (t .marks) passed in let z : _≡_ {A = ℕ} 0 1 = cc in omega arith
+    none-refused k e = let p = lent-passes g (enough (checkNeeds (g .n) (nodesOf g) (g .limit) (lengths t))) passed in let z : _≡_ {A = ℕ} 0 1 = cc in omega arith
 
     -- A yes,
     pub says-yes : {queue visited : List ℕ} → Judged (g .n) (g .steps) t true queue visited → Audited g t Yes queue visited
@@ -128,7 +128,7 @@ module _ (g : Graph) (t : Tables) where
   -- and a refusal.
   pub says-refused : (k : ℕ) → lentNumber g (enough (checkNeeds (g .n) (nodesOf g) (g .limit) (lengths t))) ≡ k → (k ≡ 0 → ⊥) → Audited g t (Refused k) (t .queue) (t .visited)
   says-refused k e n =
-      let r = lent-refuses g (enough (checkNeeds (g .n) (nodesOf g) (g .limit) (lengths t))) false (t .marks) k e n in
+      let r = lent-refuses g (enough (checkNeeds (g .n) (nodesOf g) (g .limit) (lengths t))) k e n in
       record {
         refused = λ j. (λ q. let z : k ≡ j = cc in rw z at r, λ q. let z : k ≡ j = cc in rw z);
         unchanged = λ j q. (refl, refl);

@@ -7,11 +7,11 @@ use mathlib.Core.List.{List}
 use mathlib.Core.Option.{Option, some, none}
 use Prim.Native.Nat.{ℕ}
 use Rattle.gid.specs.Histories.{History}
-use Rattle.gid.specs.Refusals.{first, lent}
+use Rattle.gid.specs.Refusals.{first}
 use Rattle.gid.specs.Outcomes.{Outcome}
 use Rattle.tables.specs.declared.Graph.{Graph}
 use Rattle.tables.specs.Tables.{Tables, nodesOf, enough, lengths, checkNeeds, tablesOf}
-use Rattle.tables.specs.Refused.{given}
+use Rattle.tables.specs.Refused.{lentRules}
 use Rattle.tables.specs.Fitting.{Consistent, Fits}
 use Rattle.tables.specs.Keeping.{Kept, KeptVisited}
 use Rattle.audit.specs.declared.answer.Audit.{Audit}
@@ -25,7 +25,7 @@ auditOutcome (Refused k) = Outcome.refused k
 
 -- The number of the first of the tests 1 to 4 that applies, if one does. "Test 3 covers the tables that the call in hand is lent": all but the news list.
 abbrev pub auditRefusal : Graph → Tables → Option ℕ
-auditRefusal g t = first (lent (given g (enough (checkNeeds (g .n) (nodesOf g) (g .limit) (lengths t))) false (t .marks)))
+auditRefusal g t = first (lentRules g (enough (checkNeeds (g .n) (nodesOf g) (g .limit) (lengths t))))
 
 -- The tables after a check that left these in the queue and in the visited marks.
 abbrev pub afterCheck : Tables → List ℕ → List ℕ → Tables

@@ -11,11 +11,11 @@ use lib.ListN.{length, take}
 use lib.Seq.{length-take-le}
 use borrow.Author.Tests.{leb-true}
 use Rattle.gid.specs.declared.Update.{Update}
-use Rattle.gid.specs.Refusals.{Rule, lent, maxStates}
+use Rattle.gid.specs.Refusals.{Rule, maxStates}
 use Rattle.tables.specs.declared.Graph.{Graph}
 use Rattle.tables.specs.declared.lengths.Lengths.{Lengths}
 use Rattle.tables.specs.Tables.{Tables, nodesOf, enough, needs, longEnough}
-use Rattle.tables.specs.Refused.{given, lentNumber}
+use Rattle.tables.specs.Refused.{lentRules, lentNumber}
 use Rattle.tables.proofs.Refusing.{first-some, first-none, lent-passes, lent-refuses, lent-leaves, accepted-passes}
 use Rattle.engine.specs.declared.Answer.{Answer}
 use Rattle.engine.specs.declared.Answer.the-variants.{Accepted, Refused}
@@ -48,7 +48,7 @@ module _ (g : Graph) (l : Lengths) where
   malformed = record { applies = true; number = 11 } ∷ []
 
   pub kind-refused : (k : ℕ) → lentNumber g long ≡ k → (k ≡ 0 → ⊥) → kindRefusal g l ≡ some k
-  kind-refused k e n = first-some (lent (given g long false [])) malformed k (lent-refuses g long false [] k e n)
+  kind-refused k e n = first-some (lentRules g long) malformed k (lent-refuses g long k e n)
 
   pub kind-malformed : lentNumber g long ≡ 0 → kindRefusal g l ≡ some 11
-  kind-malformed e = first-none (lent (given g long false [])) malformed (lent-passes g long false [] e)
+  kind-malformed e = first-none (lentRules g long) malformed (lent-passes g long e)

@@ -1,7 +1,7 @@
 -- The answers of the calls for C, as equations with the answers of the calls that they export.
 -- Assumes nothing.
 use mathlib.Core.Path.{_≡_}
-use mathlib.Core.Bool.{Bool, true, false, cond}
+use mathlib.Core.Bool.{Bool, true, cond}
 use mathlib.Core.List.{List, [], _∷_, _++_}
 use mathlib.Core.Option.{Option, some}
 use Prim.Native.Nat.{ℕ, _+_}
@@ -9,12 +9,12 @@ use lib.Dec.{eqb}
 use Rattle.gid.specs.declared.Update.{Update as Sent}
 use Rattle.gid.specs.declared.Update.the-variants.{Step, Terminal, Close}
 use Rattle.gid.specs.Updates.{edge}
-use Rattle.gid.specs.Refusals.{first, lent}
+use Rattle.gid.specs.Refusals.{first}
 use Rattle.gid.specs.Outcomes.{Outcome, refused, accepted, byNumber}
 use Rattle.tables.specs.declared.Graph.{Graph}
 use Rattle.tables.specs.declared.lengths.Lengths.{Lengths}
 use Rattle.tables.specs.Tables.{Tables, nodesOf, enough, needs, lengths}
-use Rattle.tables.specs.Refused.{given}
+use Rattle.tables.specs.Refused.{lentRules}
 use Rattle.engine.specs.declared.Answer.{Answer}
 use Rattle.engine.specs.Answers.{answerNumber, newsCount}
 use Rattle.engine.specs.Promise.{Promise}
@@ -34,7 +34,7 @@ kindBy kind u v = cond (eqb kind 69) (Known (Step (edge u v))) (cond (eqb kind 8
 
 -- The number of any other kind: "11: a line is malformed", behind the tests 1 to 4.
 abbrev pub kindRefusal : Graph → Lengths → Option ℕ
-kindRefusal g l = first (lent (given g (enough (needs (g .n) (nodesOf g) (g .limit) l)) false []) ++ (record { applies = true; number = 11 } ∷ []))
+kindRefusal g l = first (lentRules g (enough (needs (g .n) (nodesOf g) (g .limit) l)) ++ (record { applies = true; number = 11 } ∷ []))
 
 -- A call with n states, a step limit and m steps before it and m′ after it: an update keeps the engine's promise, and the answer is the number of its news; another kind is refused, and changes nothing.
 pub data Called (n limit m : ℕ) : Kind → Tables → ℕ → Tables → ℕ → Type 0 where

@@ -1,8 +1,8 @@
 -- Opened tables are fresh, of the lengths that they came with, and untouched past the needed ones.
 -- Assumes nothing.
 use mathlib.Core.Path.{_≡_, refl, ap}
-use mathlib.Core.Bool.{true, false}
-use mathlib.Core.List.{List, []}
+use mathlib.Core.Bool.{true}
+use mathlib.Core.List.{List}
 use mathlib.Core.Option.{some, none}
 use Prim.Native.Nat.{ℕ}
 use Rattle.tables.specs.Tables.{Tables, tablesOf, visitedLength, longEnough, Long}
@@ -22,11 +22,11 @@ openNumber limit t = lentNumber (readerGraph limit) (longEnough (readerGraph lim
 module _ (limit : ℕ) (t : Tables) where
   pub opens-refused : (k : ℕ) → openNumber limit t ≡ k → (k ≡ 0 → ⊥) → Opens limit t t (Refused k)
   opens-refused k e n =
-      let r : openRefusal limit t ≡ some k = lent-refuses (readerGraph limit) (longEnough (readerGraph limit) t) false [] k e n in
+      let r : openRefusal limit t ≡ some k = lent-refuses (readerGraph limit) (longEnough (readerGraph limit) t) k e n in
       record { answer = rw r; tables = rw r }
 
   pub passes : openNumber limit t ≡ 0 → openRefusal limit t ≡ none
-  passes e = lent-passes (readerGraph limit) (longEnough (readerGraph limit) t) false [] e
+  passes e = lent-passes (readerGraph limit) (longEnough (readerGraph limit) t) e
 
   pub opens-ready : {t′ : Tables} → openNumber limit t ≡ 0 → t′ ≡ freshened limit t → Opens limit t t′ (Ready (record { graph = readerGraph limit }))
   opens-ready e f = record { answer = rw (passes e); tables = rw (passes e) f }

@@ -1,17 +1,15 @@
 -- Opening the tables: "It tests 2 and 3 first, then makes the lent tables fresh (the news list keeps its contents), with n = 2,048 and its caller's step limit."
 -- Assumes nothing.
 use mathlib.Core.Path.{_≡_}
-use mathlib.Core.Bool.{false}
-use mathlib.Core.List.{[]}
 use mathlib.Core.Option.{Option, some, none}
 use Prim.Native.Nat.{ℕ}
 use Rattle.gid.specs.Successors.{noSuccessor}
-use Rattle.gid.specs.Refusals.{maxStates, first, lent}
+use Rattle.gid.specs.Refusals.{maxStates, first}
 use Rattle.gid.specs.Outcomes.{Outcome, refused, accepted, byNumber}
 use Rattle.tables.specs.declared.Graph.{Graph}
 use Rattle.tables.specs.Tables.{Tables, visitedLength, longEnough}
 use Rattle.tables.specs.Keeping.{filled}
-use Rattle.tables.specs.Refused.{given}
+use Rattle.tables.specs.Refused.{lentRules}
 use Rattle.reader.specs.declared.start.Opened.{Opened}
 use Rattle.reader.specs.declared.start.Opened.the-variants.{Ready, Refused}
 
@@ -25,7 +23,7 @@ readerGraph limit = record { n = readerStates; limit = limit; steps = 0 }
 
 -- The number of the test 2 or 3, if it applies (1 and 4 never do).
 abbrev pub openRefusal : ℕ → Tables → Option ℕ
-openRefusal limit t = first (lent (given (readerGraph limit) (longEnough (readerGraph limit) t) false []))
+openRefusal limit t = first (lentRules (readerGraph limit) (longEnough (readerGraph limit) t))
 
 -- The tables made fresh (proofs/Opening.antt: `opened-fresh`).
 abbrev pub freshened : ℕ → Tables → Tables

@@ -15,7 +15,7 @@ use Rattle.gid.specs.Refusals.{Given, Rule, first, lent, sent, refusal, maxStat
 use Rattle.tables.specs.declared.Graph.{Graph}
 use Rattle.gid.specs.Outcomes.{refused, accepted as gives}
 use Rattle.tables.specs.Tables.{Tables, longEnough}
-use Rattle.tables.specs.Refused.{isFull, given, refusalOn, number, lentNumber, sentNumber, statusRules, statusAnswer}
+use Rattle.tables.specs.Refused.{isFull, given, refusalOn, lentRules, number, lentNumber, sentNumber, statusRules, statusAnswer}
 
 -- No rule of the list has the number 0.
 abbrev pub Positive : List Rule → Type 0
@@ -67,13 +67,13 @@ sent-any g long full marks (Terminal u) = refl
 sent-any g long full marks (Close u) = refl
 
 -- The tests 1 to 4 pass where the code's number is 0, and else give it.
-pub lent-passes : (g : Graph) (long full : Bool) (marks : List ℕ) → lentNumber g long ≡ 0 → first (lent (given g long full marks)) ≡ none
+pub lent-passes : (g : Graph) (long : Bool) → lentNumber g long ≡ 0 → first (lentRules g long) ≡ none
 unfolding lentNumber
-lent-passes g long full marks e = number-none (lent (given g long full marks)) (lent-numbered (given g long full marks)) e
+lent-passes g long e = number-none (lentRules g long) (lent-numbered (given g long false [])) e
 
-pub lent-refuses : (g : Graph) (long full : Bool) (marks : List ℕ) (k : ℕ) → lentNumber g long ≡ k → (k ≡ 0 → ⊥) → first (lent (given g long full marks)) ≡ some k
+pub lent-refuses : (g : Graph) (long : Bool) (k : ℕ) → lentNumber g long ≡ k → (k ≡ 0 → ⊥) → first (lentRules g long) ≡ some k
 unfolding lentNumber
-lent-refuses g long full marks k e n = number-some (first (lent (given g long full marks))) k e n
+lent-refuses g long k e n = number-some (first (lentRules g long)) k e n
 
 -- The tests 5 to 9 pass where the code's number is 0.
 pub sent-passes : (g : Graph) (full : Bool) (marks : List ℕ) (x : Update) → sentNumber g full marks x ≡ 0 → first (sent (given g true full marks) x) ≡ none
@@ -112,7 +112,7 @@ pub record Lent (g : Graph) (long : Bool) : Type 0 where
 
 pub lent-leaves : (g : Graph) (long : Bool) → lentNumber g long ≡ 0 → Lent g long
 lent-leaves g long e =
-    let p = passed (lent (given g long false [])) (lent-passes g long false [] e) in
+    let p = passed (lentRules g long) (lent-passes g long e) in
     let n = neither (eqb (g .n) 0) (ltb maxStates (g .n)) (p .0) in
     let l = neither (eqb (g .limit) 0) (ltb maxSteps (g .limit)) (p .1 .0) in
     let nz = eqb-false (g .n) 0 (n .0) in
@@ -130,11 +130,11 @@ module _ (g : Graph) (status : List ℕ) (s : ℕ) where
   pub status-refused : (k : ℕ) → lentNumber g (leb (g .n) (length status)) ≡ k → (k ≡ 0 → ⊥) → refused k ≡ statusAnswer g status s
   unfolding statusAnswer
   status-refused k e n =
-      rw (first-some (lent (given g (leb (g .n) (length status)) false [])) (record { applies = leb (g .n) s; number = 5 } ∷ []) k (lent-refuses g (leb (g .n) (length status)) false [] k e n))
+      rw (first-some (lentRules g (leb (g .n) (length status))) (record { applies = leb (g .n) s; number = 5 } ∷ []) k (lent-refuses g (leb (g .n) (length status)) k e n))
 
   module _ (e : lentNumber g (leb (g .n) (length status)) ≡ 0) where
     passes : first (statusRules g status s) ≡ first (record { applies = leb (g .n) s; number = 5 } ∷ [])
-    passes = first-none (lent (given g (leb (g .n) (length status)) false [])) (record { applies = leb (g .n) s; number = 5 } ∷ []) (lent-passes g (leb (g .n) (length status)) false [] e)
+    passes = first-none (lentRules g (leb (g .n) (length status))) (record { applies = leb (g .n) s; number = 5 } ∷ []) (lent-passes g (leb (g .n) (length status)) e)
 
     pub status-range : leb (g .n) s ≡ true → refused 5 ≡ statusAnswer g status s
     unfolding statusAnswer
@@ -151,7 +151,7 @@ module _ (g : Graph) (t : Tables) (x : Update) where
   refused-lent k e n =
       first-some (lent (given g (longEnough g t) (isFull g) (t .marks)))
       (sent (given g (longEnough g t) (isFull g) (t .marks)) x) k
-      (lent-refuses g (longEnough g t) (isFull g) (t .marks) k e n)
+      (lent-refuses g (longEnough g t) k e n)
 
   module _ (e : lentNumber g (longEnough g t) ≡ 0) where
     sent-half : refusalOn g t x ≡ first (sent (given g true (isFull g) (t .marks)) x)
@@ -159,7 +159,7 @@ module _ (g : Graph) (t : Tables) (x : Update) where
     sent-half =
         first-none (lent (given g (longEnough g t) (isFull g) (t .marks)))
         (sent (given g (longEnough g t) (isFull g) (t .marks)) x)
-        (lent-passes g (longEnough g t) (isFull g) (t .marks) e) ∙
+        (lent-passes g (longEnough g t) e) ∙
         sent-any g (longEnough g t) (isFull g) (t .marks) x
 
     pub refused-sent : (k : ℕ) → sentNumber g (isFull g) (t .marks) x ≡ k → (k ≡ 0 → ⊥) → refusalOn g t x ≡ some k

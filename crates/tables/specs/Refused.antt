@@ -35,6 +35,10 @@ given g long full marks =
 abbrev pub refusalOn : Graph → Tables → Update → Option ℕ
 refusalOn g t x = refusal (given g (longEnough g t) (isFull g) (t .marks)) x
 
+-- The tests 1 to 4, of a call whose lent tables are long enough or not. They read no mark, and nothing of the step list but its number.
+abbrev pub lentRules : Graph → Bool → List Rule
+lentRules g long = lent (given g long false [])
+
 -- A number as the code has it: 0 for none.
 abbrev pub number : Option ℕ → ℕ
 number none = 0
@@ -42,14 +46,14 @@ number (some k) = k
 
 -- The tests 1 to 4, and the tests 5 to 9, by themselves.
 unfoldable pub lentNumber : Graph → Bool → ℕ
-lentNumber g long = number (first (lent (given g long false [])))
+lentNumber g long = number (first (lentRules g long))
 
 unfoldable pub sentNumber : Graph → Bool → List ℕ → Update → ℕ
 sentNumber g full marks x = number (first (sent (given g true full marks) x))
 
 -- The status question: "tests 1 to 5", and then the state's byte. "Test 3 covers the tables that the call in hand is lent": the status table.
 abbrev pub statusRules : Graph → List ℕ → ℕ → List Rule
-statusRules g status s = lent (given g (leb (nodesOf g) (length status)) false []) ++ (record { applies = leb (g .n) s; number = 5 } ∷ [])
+statusRules g status s = lentRules g (leb (nodesOf g) (length status)) ++ (record { applies = leb (g .n) s; number = 5 } ∷ [])
 
 -- Document 01's number and value for each answer of the status question.
 abbrev pub statusOutcome : Status → Outcome ℕ

@@ -10,10 +10,10 @@ use native.Mathlib.Omega.{arith}
 use lib.ListN.{length, take, drop}
 use lib.Seq.{length-take-le, take-at, drop-at}
 use borrow.Author.Tests.{lt-ltb, le-ltb, leb-true, ltb-false}
-use Rattle.gid.specs.Refusals.{first, lent}
+use Rattle.gid.specs.Refusals.{first}
 use Rattle.gid.specs.Outcomes.{accepted, byNumber}
 use Rattle.tables.specs.declared.Graph.{Graph}
-use Rattle.tables.specs.Refused.{given, lentNumber, number}
+use Rattle.tables.specs.Refused.{lentRules, lentNumber, number}
 use Rattle.tables.proofs.Refusing.{first-some, first-none, lent-passes, lent-refuses, passed, none-applies, neither}
 use Rattle.record.specs.Text.{WroteAt}
 use Rattle.writer.specs.declared.Written.{Written}
@@ -41,14 +41,14 @@ module _ {g : Graph} {marks from to buf : List ℕ} {at : ℕ} where
   pub lent-refused : (k : ℕ) → lentNumber g (allLong g marks from to) ≡ k → (k ≡ 0 → ⊥) → Writes g marks from to buf at buf (Refused k)
   lent-refused k e n =
       by-number (some k)
-      (first-some (lent (given g (allLong g marks from to) false [])) (record { applies = short buf at (length (theRecord g marks from to)); number = 13 } ∷ []) k (lent-refuses g (allLong g marks from to) false [] k e n))
+      (first-some (lentRules g (allLong g marks from to)) (record { applies = short buf at (length (theRecord g marks from to)); number = 13 } ∷ []) k (lent-refuses g (allLong g marks from to) k e n))
       refl refl
 
   module _ (e : lentNumber g (allLong g marks from to) ≡ 0) where
     tested : (b : Bool) {f : List ℕ} {r : Written} → short buf at (length (theRecord g marks from to)) ≡ b → writtenOutcome r ≡ byNumber (cond b (some 13) none) (at + length (theRecord g marks from to)) → f ≡ orFilled g marks from to buf at (cond b (some 13) none) → Writes g marks from to buf at f r
     tested b q =
         by-number (cond b (some 13) none)
-        (first-none (lent (given g (allLong g marks from to) false [])) (record { applies = short buf at (length (theRecord g marks from to)); number = 13 } ∷ []) (lent-passes g (allLong g marks from to) false [] e) ∙
+        (first-none (lentRules g (allLong g marks from to)) (record { applies = short buf at (length (theRecord g marks from to)); number = 13 } ∷ []) (lent-passes g (allLong g marks from to) e) ∙
         ap (λ (t : Bool). cond t (some 13) none) q)
 
     pub past-end : length buf < at → Writes g marks from to buf at buf (Refused 13)
@@ -65,14 +65,14 @@ module _ {g : Graph} {marks from to buf : List ℕ} {at : ℕ} where
   unfolding lentNumber writeAnswer bufferAfter
   ended {f} {r} {end} w e = by (first (writeRules g marks from to buf at)) refl (sym e ∙ w .answer) (w .buffer)
     where
-      by : (o : Option ℕ) → first (writeRules g marks from to buf at) ≡ o → accepted end ≡ byNumber (first (writeRules g marks from to buf at)) (at + length (theRecord g marks from to)) → f ≡ orFilled g marks from to buf at (first (writeRules g marks from to buf at)) → (number (first (lent (given g (allLong g marks from to) false []))) ≡ 0) × (take (end - at) (drop at f) ≡ theRecord g marks from to)
+      by : (o : Option ℕ) → first (writeRules g marks from to buf at) ≡ o → accepted end ≡ byNumber (first (writeRules g marks from to buf at)) (at + length (theRecord g marks from to)) → f ≡ orFilled g marks from to buf at (first (writeRules g marks from to buf at)) → (number (first (lentRules g (allLong g marks from to))) ≡ 0) × (take (end - at) (drop at f) ≡ theRecord g marks from to)
       by none q a b =
           let p = passed (writeRules g marks from to buf at) q in
           let s = neither (ltb (length buf) at) (ltb (length buf - at) (length (theRecord g marks from to))) (p .1 .1 .1 .1 .0) in
           let h = ltb-false (length buf) at (s .0) in
           let z : end ≡ at + length (theRecord g marks from to) = cc in
           let d : length (theRecord g marks from to) ≡ end - at = omega arith in (
-            ap number (none-applies (lent (given g (allLong g marks from to) false [])) (p .0, (p .1 .0, (p .1 .1 .0, (p .1 .1 .1 .0, tt))))),
+            ap number (none-applies (lentRules g (allLong g marks from to)) (p .0, (p .1 .0, (p .1 .1 .0, (p .1 .1 .1 .0, tt))))),
             rw (b, q, drop-at (take at buf) (theRecord g marks from to ++ drop (at + length (theRecord g marks from to)) buf) at (length-take-le at buf h)) (take-at (theRecord g marks from to) (drop (at + length (theRecord g marks from to)) buf) (end - at) d),
           )
       by (some k) q a b = absurd (let z : _≡_ {A = ℕ} 0 1 = cc in omega arith)

@@ -1,17 +1,17 @@
 -- What the writer answers: "It tests 1 to 4, then 13", and then "returns the place after the last byte, and leaves all other bytes".
 -- Assumes nothing.
 use mathlib.Core.Path.{_≡_}
-use mathlib.Core.Bool.{Bool, false, _||_}
+use mathlib.Core.Bool.{Bool, _||_}
 use mathlib.Core.List.{List, [], _∷_, _++_}
 use mathlib.Core.Option.{Option, some, none}
 use Prim.Native.Nat.{ℕ, _+_, _-_}
 use lib.Dec.{ltb}
 use lib.ListN.{length, take, drop}
-use Rattle.gid.specs.Refusals.{Rule, first, lent}
+use Rattle.gid.specs.Refusals.{Rule, first}
 use Rattle.gid.specs.Outcomes.{Outcome, refused, accepted, byNumber}
 use Rattle.tables.specs.declared.Graph.{Graph}
 use Rattle.tables.specs.Tables.{Needed, enough}
-use Rattle.tables.specs.Refused.{given}
+use Rattle.tables.specs.Refused.{lentRules}
 use Rattle.writer.specs.declared.Written.{Written}
 use Rattle.writer.specs.declared.Written.the-variants.{End, Refused}
 use Rattle.writer.specs.Order.{recordOf}
@@ -40,7 +40,7 @@ module _ (g : Graph) (marks from to : List ℕ) where
   module _ (buf : List ℕ) (at : ℕ) where
     -- The numbers 1 to 4 and 13, by rising number.
     abbrev pub writeRules : List Rule
-    writeRules = lent (given g allLong false []) ++ (record { applies = short buf at (length theRecord); number = 13 } ∷ [])
+    writeRules = lentRules g allLong ++ (record { applies = short buf at (length theRecord); number = 13 } ∷ [])
 
     -- The answer: the number of the first test that applies, or the place after the record.
     unfoldable pub writeAnswer : Outcome ℕ
