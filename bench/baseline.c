@@ -52,8 +52,7 @@ static int refused_terminal(const Engine *e, size_t u)
 
 static int refused_close(const Engine *e, size_t u)
 {
-    if (u >= e->n) return 5;
-    return e->marks[u] & CLOSED ? 7 : 0;
+    return u >= e->n ? 5 : 0;
 }
 
 // ---- the lists of steps: entries are 1 + an index, 0 at the end; a walk only falls, so that it ends on any contents
@@ -237,6 +236,7 @@ static size_t terminal(const Engine *e, size_t u)
 
 static size_t close_state(const Engine *e, size_t u)
 {
+    if (e->marks[u] & CLOSED) return 0;
     name(e, u);
     e->marks[u] |= CLOSED;
     if (e->status[u] == LIVE) return 0;

@@ -132,9 +132,9 @@ static const struct {
 } kinds[] = {
     {"steps until the limit, then 9", random_steps},
     {"terminal marks and closes", random_marks},
-    {"an explorer's steps and closes, then 6 and 7", explored},
-    {"a ring read forwards, then 6 and 7", ring_forwards},
-    {"a ring read backwards, then 6 and 7", ring_backwards},
+    {"an explorer's steps and closes, then 6 and closes again", explored},
+    {"a ring read forwards, then 6 and closes again", ring_forwards},
+    {"a ring read backwards, then 6 and closes again", ring_backwards},
     {"news with the first mark of each state", marked_again},
     {"news with each update", news_each},
     {"each line refused with 5", too_large},

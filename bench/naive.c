@@ -66,7 +66,7 @@ static size_t classify(Naive *e)
 static int refused(size_t n, size_t limit, size_t steps, const uint8_t *marks, uint8_t kind, size_t first, size_t second)
 {
     if (first >= n || (kind == 'E' && second >= n)) return 5;
-    if (marks[first] & CLOSED) return kind == 'C' ? 7 : 6;
+    if (kind != 'C' && (marks[first] & CLOSED)) return 6;
     return kind == 'E' && steps == limit ? 9 : 0;
 }
 
@@ -76,6 +76,7 @@ uint32_t naive_update(PARAMETERS)
     (void)out_head_len, (void)queue_len, (void)visited_len, (void)in_next_len, (void)out_next_len;
     int number = refused(n, limit, *steps, marks, kind, first, second);
     if (number) return REFUSED + (uint32_t)number;
+    if (kind == 'C' && (marks[first] & CLOSED)) return 0;
     marks[first] |= kind == 'E' ? NAMED : kind == 'T' ? NAMED | TERMINAL : NAMED | CLOSED;
     if (kind == 'E') {
         size_t p = (*steps)++;

@@ -57,7 +57,6 @@ enum radvoinis_refusal {
     RADVOINIS_EXCESS_STEPS = 4,    /* the number of steps is above the limit */
     RADVOINIS_OUT_OF_RANGE = 5,    /* a state is n or more */
     RADVOINIS_CLOSED_SOURCE = 6,   /* a step or a terminal mark from a closed state */
-    RADVOINIS_CLOSED_AGAIN = 7,    /* a close of a closed state */
     RADVOINIS_LIST_FULL = 9,       /* a step where the list is full */
     RADVOINIS_BAD_NAMES = 10,      /* a record's first line is not the names line */
     RADVOINIS_MALFORMED = 11,      /* a line of a record is no update; a kind that is none of E, T and C */
@@ -116,7 +115,8 @@ size_t radvoinis_tables_size(uint32_t n, uint32_t limit);
 uint32_t radvoinis_tables_fresh(radvoinis_tables *t, void *memory, size_t size, uint32_t n, uint32_t limit);
 
 /* The updates: a step from state to state, a terminal mark, a close. Each answers the number of its news, which stand in the front of
-   t->news, or RADVOINIS_REFUSED plus the number of its refusal (1 to 7, 9), and then changes nothing. */
+   t->news, or RADVOINIS_REFUSED plus the number of its refusal (1 to 6, 9), and then changes nothing. A close of a closed state answers 0
+   and changes nothing either. */
 uint32_t radvoinis_step(radvoinis_tables *t, uint32_t from, uint32_t to);
 uint32_t radvoinis_terminal(radvoinis_tables *t, uint32_t state);
 uint32_t radvoinis_close(radvoinis_tables *t, uint32_t state);
@@ -133,14 +133,15 @@ uint32_t radvoinis_save(const radvoinis_tables *t, uint8_t *buf, size_t len, siz
 /* ---- The call on a record's bytes */
 
 /* The status of a state after a record of 2,048 states and at most 2,048 steps: 0 to 4; or RADVOINIS_LINE_REFUSED plus the number
-   of the first refused line (5 to 12). A state of 2,048 or more answers 21, tested first. */
+   of the first refused line (5, 6, 9 to 12). A state of 2,048 or more answers 21, tested first. */
 uint8_t radvoinis_status(const uint8_t *record, size_t record_len, uint32_t state);
 
 /* ---- The raw calls: each table a pointer and a length, wherever the caller keeps it. */
 
 /* One update on the caller's tables: kind is 'E' (a step from first to second), 'T' (a terminal mark on first) or 'C' (a close
    of first). Answers the number of its news, which stand in the front of the news list, and brings *steps up to date; or
-   RADVOINIS_REFUSED plus the number of its refusal (1 to 7, 9; 11 for any other kind, tested behind 1 to 4), and changes nothing.
+   RADVOINIS_REFUSED plus the number of its refusal (1 to 6, 9; 11 for any other kind, tested behind 1 to 4), and changes nothing.
+   A close of a closed state answers 0 and changes nothing either, whatever the tables hold.
    Needed lengths: n for status, marks, successor, news, in_head, out_head, queue, visited; limit for from, to, in_next, out_next.
    Fresh tables are all zero, with 65,535 in every successor entry; *steps is 0. */
 uint32_t radvoinis_update(size_t n, size_t limit, size_t *steps, uint8_t kind, size_t first, size_t second,

@@ -119,7 +119,7 @@ static void give_every(History *h, int updates)
     reference_marks(h, marks);
     for (size_t i = 0; i < updates_over(2) && updates > 0; i++) {
         Update u = nth_update(2, i);
-        if ((marks[u.first] & CLOSED) || (u.kind == 'E' && h->steps == 2)) continue;
+        if (!reference_legal(marks, u) || (u.kind == 'E' && h->steps == 2)) continue;
         history_add(h, u);
         give_every(h, updates - 1);
         history_drop(h);

@@ -147,15 +147,20 @@ fault "no 9" 's/e->steps == e->limit ? 9 : 0/0/'
 fault "9 before 6" "$(within refused_step 's/    int number/    if (e->steps == e->limit) return 9;\n&/')"
 fault "9 for a terminal mark" "$(within refused_terminal 's/return refused_source(e, u);/return e->steps == e->limit ? 9 : refused_source(e, u);/')"
 fault "6 before 5" "$(within refused_step 's/    if (u >= e->n || v >= e->n) return 5;/    if (u >= e->n) return 5; if (e->marks[u] \& CLOSED) return 6; if (v >= e->n) return 5;/')"
-fault "6 for a close again" 's/? 7 : 0/? 6 : 0/'
-fault "a close again is accepted" 's/? 7 : 0/? 0 : 0/'
+fault "6 for a close again" "$(within refused_close 's/return u >= e->n ? 5 : 0;/return u >= e->n ? 5 : e->marks[u] \& CLOSED ? 6 : 0;/')"
+few=1 fault "7 still given" "$(within refused_close 's/return u >= e->n ? 5 : 0;/return u >= e->n ? 5 : e->marks[u] \& CLOSED ? 7 : 0;/')"
+fault "a second close is judged again" "$(within close_state 's/    if (e->marks\[u\] & CLOSED) return 0;//')"
+fault "a second close turns a live state unknown" "$(within close_state 's/    if (e->marks\[u\] & CLOSED) return 0;/    if (e->marks[u] \& CLOSED) return e->status[u] = UNKNOWN, 0;/')"
+fault "a second close turns a dead state unknown" "$(within close_state 's/    if (e->marks\[u\] & CLOSED) return 0;/    if (e->marks[u] \& CLOSED) return e->status[u] == DEAD ? e->status[u] = UNKNOWN, 0 : 0;/')"
+fault "a second close is news again" "$(within close_state 's/    if (e->marks\[u\] & CLOSED) return 0;/    if (e->marks[u] \& CLOSED) return e->news[0] = (uint16_t)u, 1;/')"
+fault "a second close sets the named mark" "$(within close_state 's/    if (e->marks\[u\] & CLOSED) return 0;/    if (e->marks[u] \& CLOSED) return e->marks[u] |= NAMED, 0;/')"
+fault "a second close is told by the status" "$(within close_state 's/    if (e->marks\[u\] & CLOSED) return 0;/    if (e->status[u] == UNKNOWN || e->status[u] == DEAD) return 0;/')"
 few=1 fault "8 still given" "$(within refused_source 's/? 6 : 0/? 6 : e->status[u] == DEAD ? 8 : 0/')"
 fault "6 by the status" "$(within refused_source 's/e->marks\[u\] & CLOSED/e->marks[u] \& CLOSED || e->status[u] == DEAD/')"
-fault "7 by the status" "$(within refused_close 's/e->marks\[u\] & CLOSED/e->marks[u] \& CLOSED || e->status[u] == DEAD/')"
 fault "5 for the second state of a terminal mark" "s/kind == 'T' ? refused_terminal(e, first)/kind == 'T' ? (second >= e->n ? 5 : refused_terminal(e, first))/"
 fault "n itself is a state" 's/u >= e->n || v >= e->n/u > e->n || v > e->n/'
 fault "states in sixteen bits" 's/u >= e->n || v >= e->n/(uint16_t)u >= e->n || (uint16_t)v >= e->n/'
-fault "states in thirty-two bits" "$(within refused_close 's/    if (u >= e->n) return 5;/    if ((uint32_t)u >= e->n) return 5;/')"
+fault "states in thirty-two bits" "$(within refused_close 's/return u >= e->n/return (uint32_t)u >= e->n/')"
 fault "2,049 states" 's/n > MAX_STATES/n > MAX_STATES + 1/'
 fault "2,047 states at most" 's/n > MAX_STATES/n >= MAX_STATES/'
 fault "no states" 's/if (n == 0 || /if (/'
@@ -253,6 +258,8 @@ reading_fault "empty input is a record" "$(within reading_end 's/    if (r->line
 reading_fault "12 a line early" "$(within reading_line 's/number == 65536/number == 65535/')"
 reading_fault "12 a line late" "$(within reading_line 's/number == 65536/number == 65537/')"
 reading_fault "11 before 12" "$(within reading_line 's/number == 65536/number == 65536 \&\& (length == 0 || update_of(line, length).kind)/')"
+reading_fault "7 still given to a line" "$(within reading_line 's/    refusal ? refuse/    if (!refusal \&\& reference_again(r->marks, u)) refusal = 7;\n&/')"
+listing_fault "a second close is listed as news" "$(within accept 's/    if (reference_again(r->marks, u)) return;/    if (listing \&\& reference_again(r->marks, u)) fprintf(listing, "%zu dead %zu\\n", number, u.first);\n&/')"
 reading_fault "a limit of 2,047 steps" "$(within reading_start 's/MOST_STATES, limit)/MOST_STATES, limit - 1)/')"
 reading_fault "a limit of 2,049 steps" "$(within reading_start 's/MOST_STATES, limit)/MOST_STATES, limit + 1)/')"
 status_fault "the last refusal decides" "$(within refuse 's/if (!r->refused) //')"

@@ -14,6 +14,7 @@
 typedef enum {
     CHECK_NUMBER,
     CHECK_NOTHING,
+    CHECK_AGAIN,
     CHECK_VALUE,
     CHECK_MARKS,
     CHECK_STEPS,
@@ -37,6 +38,7 @@ typedef enum {
 static const char *const check_names[CHECKS] = {
     "accepted, or refused with the reference's number",
     "nothing changed on a refusal",
+    "nothing changed and no news on a close of a closed state",
     "state value",
     "marks",
     "step list",
@@ -56,7 +58,7 @@ static const char *const check_names[CHECKS] = {
     "the reference's two ways agree",
 };
 
-static unsigned long refusals[12], made_live, made_dead, longest_chain;
+static unsigned long refusals[12], closed_again, left_out_again, made_live, made_dead, longest_chain;
 
 // ---- one call, on tables with any contents
 
@@ -76,7 +78,7 @@ static uint8_t mark_bits(Update u, size_t s)
     return bits;
 }
 
-// What holds of an accepted update whatever the tables held: marks, step list and state value, the news' form, and what is kept.
+// What holds of an accepted update, but for a close of a closed state, whatever the tables held: marks, step list and state value, the news' form, and what is kept.
 static void check_accepted(Lent *l, Update u, size_t news)
 {
     static const Name searched[] = {STATUS, SUCCESSOR, IN_HEAD, OUT_HEAD, QUEUE, VISITED, IN_NEXT, OUT_NEXT};
@@ -110,7 +112,7 @@ static int number_of(const Lent *l, Update u)
 // One call, held to its number and to what holds on any tables. Answers whether it was rightly accepted, with the number of its news.
 static int call(Lent *l, Update u, size_t *news)
 {
-    int number = number_of(l, u);
+    int number = number_of(l, u), again = !number && reference_again(bytes(l, MARKS), u);
     shown_lent = l, shown_update = u;
     lent_keep(l);
     uint32_t answer = lent_update(l, u);
@@ -121,7 +123,8 @@ static int call(Lent *l, Update u, size_t *news)
         return 0;
     }
     if (!check(CHECK_NUMBER, answer < RADVOINIS_REFUSED)) return 0;
-    check_accepted(l, u, answer);
+    if (again) closed_again++, check(CHECK_AGAIN, answer == 0 && lent_unchanged(l));
+    else check_accepted(l, u, answer);
     *news = answer;
     return !failed;
 }
@@ -214,7 +217,7 @@ static void run_sent(Run *r, Update u)
 static Lent lent_a, lent_b;
 static Run full = {.lent = &lent_a, .send = run_sent}, thin = {.lent = &lent_b};
 
-// ---- the marked examples of document 01, their answers as it gives them
+// ---- the marked examples of document 01, their answers as it gives them; and closes of closed states, by document 02
 
 typedef struct {
     const char *updates;
@@ -242,6 +245,10 @@ static const Example examples[] = {
     {"E01 E01 T0", 1, 0, "0", LIVE, NULL},
     {"T0 E01 E12 C1 C2", 4, 0, "12", DEAD, NULL},
     {"T0 E12 C1 C2", 4, 0, "12", DEAD, NULL},
+    {"C0 C0", 4, 0, "", 0, "400"},
+    {"T0 C0 C0", 4, 0, "", 0, "300"},
+    {"E01 C0 C0", 4, 0, "", 0, "210"},
+    {"E01 E10 C0 C1 C0", 4, 0, "", 0, "440"},
 };
 
 static int example_ends(const Example *x, uint32_t answer)
@@ -295,7 +302,7 @@ static void continuations(History *h, size_t depth)
     reference_marks(h, marks);
     for (size_t i = 0; i < updates_over(h->n) && !failed; i++) {
         Update u = nth_update(h->n, i);
-        if (marks[u.first] & CLOSED) continue;
+        if (!reference_legal(marks, u)) continue;
         history_add(h, u);
         continuations(h, depth - 1);
         history_drop(h);
@@ -390,9 +397,10 @@ static int same_where_named(void)
 static void send_both(Update u, int leave)
 {
     size_t news, pruned;
-    int live = u.first < full.lent->n && full.status[u.first] == LIVE;
+    int live = u.first < full.lent->n && full.status[u.first] == LIVE, again = live && reference_again(full.marks, u);
     if (!run_send(&full, u, &news)) return;
     if (live && leave) {
+        left_out_again += again;
         check(CHECK_LEFT_OUT, news == 0);
         return;
     }
@@ -444,6 +452,8 @@ static void pruned_run(size_t n, size_t limit, size_t updates)
         u.second = target(n, u.first, near);
         send_both(u, leave == 4 || below(4) < leave);
     }
+    Update last = {'C', below(n), 0};
+    for (size_t i = 0; i < 3 && !failed; i++) send_both(last, leave == 4 || below(4) < leave);
 }
 
 static void group_pruned_random(void)
@@ -558,7 +568,8 @@ static void group_kinds(void)
 }
 
 // Every mark and every status byte of the first state, with a place free and with none: a number turns on the mark's bit, never on the
-// status, so that what is sent from a state called dead and not closed goes on to the tests behind.
+// status, so that what is sent from a state called dead and not closed goes on to the tests behind. Of closes the same bit says which
+// change nothing.
 static void group_first_state(void)
 {
     Lent *l = &lent_a;
@@ -648,8 +659,9 @@ static void show_counts(void)
     printf("%lu calls of the engine's update; %lu states made live, %lu made dead; longest chain of successors %lu\n", calls_made,
            made_live, made_dead, longest_chain - 1);
     printf("refusals:");
-    for (int i = 1; i <= 7; i++) printf(" %d: %lu,", i, refusals[i]);
+    for (int i = 1; i <= 6; i++) printf(" %d: %lu,", i, refusals[i]);
     printf(" 9: %lu, 11: %lu\n", refusals[9], refusals[11]);
+    printf("closes of closed states: %lu; left out of pruned runs: %lu\n", closed_again, left_out_again);
 }
 
 int main(int argc, char **argv)

@@ -35,7 +35,8 @@ static void accept(Reading *r, size_t number, Update u, FILE *listing)
 {
     uint8_t before[MOST_STATES];
     uint16_t news[MOST_STATES];
-    if (u.kind == 'T' && (r->marks[u.first] & TERMINAL)) return;    // a mark that is there changes nothing
+    if (u.kind == 'T' && (r->marks[u.first] & TERMINAL)) return;    // a mark that is there changes nothing,
+    if (reference_again(r->marks, u)) return;                       // and so does a close
     memcpy(before, r->status, MOST_STATES);
     history_add(&r->history, u);
     reference_marks(&r->history, r->marks);

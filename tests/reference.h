@@ -42,4 +42,8 @@ size_t reference_news(size_t n, const uint8_t *before, const uint8_t *after, uin
 int reference_lent(size_t n, size_t limit, size_t steps, int long_enough);
 int reference_sent(size_t n, size_t limit, size_t steps, const uint8_t *marks, Update u);
 
+// By the marks before it: whether an update in range may follow in a legal history, and whether it is a close of a closed state.
+int reference_legal(const uint8_t *marks, Update u);
+int reference_again(const uint8_t *marks, Update u);
+
 #endif

@@ -104,11 +104,19 @@ void random_history(History *h, size_t n, size_t limit, size_t updates, int lega
         size_t kind = below(steps + terminals + closes);
         Update u = {kind < steps ? 'E' : kind < steps + terminals ? 'T' : 'C', below(n), 0};
         if (u.kind == 'T' && !one_in(1 + n / 8)) u.kind = 'E';
-        if (legal && (closed[u.first] || (u.kind == 'E' && h->steps == limit))) continue;
+        if (i + 2 >= updates && updates > 1) u = (Update){'C', i + 1 == updates ? h->accepted[h->count - 1].first : u.first, 0};
+        if (legal && ((closed[u.first] && u.kind != 'C') || (u.kind == 'E' && h->steps == limit))) continue;
         if (u.kind == 'E') u.second = target(n, u.first, near);
-        closed[u.first] = u.kind == 'C';
+        closed[u.first] |= u.kind == 'C';
         history_add(h, u);
     }
+}
+
+// The last close comes again, of whatever status its state is.
+static void close_again(Run *r)
+{
+    size_t s = below(r->lent->n);
+    send(r, 'C', s, 0), send(r, 'C', s, 0);
 }
 
 void mixed_run(Run *r, size_t n, size_t limit, size_t updates)
@@ -125,6 +133,7 @@ void mixed_run(Run *r, size_t n, size_t limit, size_t updates)
         if (wild && one_in(wild)) *(one_in(2) ? &u.first : &u.second) = n + below(one_in(2) ? 3 : 70000);
         r->send(r, u);
     }
+    close_again(r);
 }
 
 static void shuffle(size_t *order, size_t n)
@@ -156,6 +165,7 @@ void chain_run(Run *r, size_t n, size_t how, size_t extra, size_t skip)
     }
     for (size_t i = n; i > 0 && !failed; i--)
         if (!one_in(8)) send(r, 'C', order[i - 1], 0);
+    close_again(r);
 }
 
 void graph_run(Run *r, size_t n, size_t limit)
@@ -172,6 +182,7 @@ void graph_run(Run *r, size_t n, size_t limit)
         if (mark && one_in(n)) send(r, 'T', order[i], 0);
         else send(r, 'C', order[i], 0);
     }
+    close_again(r);
 }
 
 void small_run(Run *r, size_t i)
@@ -201,6 +212,7 @@ void full_list_run(Run *r, size_t near)
         send(r, 'E', order[i], order[i + 1]);
         send(r, i % 1024 ? 'C' : 'T', order[i], 0);
     }
+    close_again(r);
 }
 
 // ---- the run that is under way

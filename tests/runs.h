@@ -41,8 +41,11 @@ void every_list(Run *r, size_t n, size_t limit, size_t depth, size_t numbers);
 // Targets of steps: anywhere, or near their source.
 size_t target(size_t n, size_t source, size_t near);
 
-// A history of up to so many updates, in random proportions; a legal one has at most `limit` steps, and none is refused.
+// A history of up to so many updates, in random proportions, the last close again at its end; a legal one has at most `limit` steps, and
+// none is refused.
 void random_history(History *h, size_t n, size_t limit, size_t updates, int legal);
+
+// Each run ends with a close that comes again.
 
 // Updates in random proportions; closes at random, by rising or by falling state; now and then a state out of range.
 void mixed_run(Run *r, size_t n, size_t limit, size_t updates);

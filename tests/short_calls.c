@@ -348,7 +348,7 @@ static void group_examples(void)
     check(CHECK_EXAMPLE, t->status[0] == RADVOINIS_UNKNOWN && t->status[1] == RADVOINIS_UNKNOWN && t->status[2] == RADVOINIS_OPEN);
     check(CHECK_EXAMPLE, radvoinis_step(t, 0, 3) == RADVOINIS_REFUSED + RADVOINIS_OUT_OF_RANGE);
     check(CHECK_EXAMPLE, radvoinis_step(t, 0, 2) == RADVOINIS_REFUSED + RADVOINIS_CLOSED_SOURCE);
-    check(CHECK_EXAMPLE, radvoinis_close(t, 0) == RADVOINIS_REFUSED + RADVOINIS_CLOSED_AGAIN);
+    check(CHECK_EXAMPLE, radvoinis_close(t, 0) == 0);
     check(CHECK_EXAMPLE, radvoinis_terminal(t, 2) == 3 && t->news[0] == 0 && t->news[1] == 1 && t->news[2] == 2);
     check(CHECK_EXAMPLE, radvoinis_status_of(t, 0) == RADVOINIS_LIVE && radvoinis_status_of(t, 3) == RADVOINIS_REFUSED + 5);
     check(CHECK_EXAMPLE, t->marks[2] == (RADVOINIS_NAMED | RADVOINIS_TERMINAL) && t->marks[0] == (RADVOINIS_NAMED | RADVOINIS_CLOSED));

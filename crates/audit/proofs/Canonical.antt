@@ -12,8 +12,8 @@ use lib.Seq.{take-suc}
 use Rattle.gid.specs.declared.Edge.{Edge}
 use Rattle.gid.specs.declared.Update.{Update}
 use Rattle.gid.specs.declared.Update.the-variants.{Step, Terminal, Close}
-use Rattle.gid.specs.Updates.{edge, source}
-use Rattle.gid.specs.Histories.{History, Has, IsTerminal, IsClosed, Legal, added, listed}
+use Rattle.gid.specs.Updates.{edge}
+use Rattle.gid.specs.Histories.{History, Has, IsTerminal, IsClosed, MayFollow, Legal, added, listed}
 use Rattle.gid.proofs.Tests.{step-terminal, step-close, terminal-close}
 use Rattle.tables.proofs.Listed.{ListsSteps}
 
@@ -76,13 +76,13 @@ module _ (kind : ℕ → Update) (f : ℕ → Bool) (h : History) where
       at true i = rw (e n, append-nil) i
       at false i = i
 
-  marking-legal : Legal h → (n : ℕ) → ((s : ℕ) → s < n → IsClosed (marking kind f s h) (source (kind s)) → ⊥) → Legal (marking kind f n h)
+  marking-legal : Legal h → (n : ℕ) → ((s : ℕ) → MayFollow (marking kind f s h) (kind s)) → Legal (marking kind f n h)
   unfolding marking
   marking-legal l zero o = l
-  marking-legal l (suc n) o = at (f n) (marking-legal l n (λ s k. o s (omega arith)))
+  marking-legal l (suc n) o = at (f n) (marking-legal l n o)
     where
       at : (b : Bool) → Legal (marking kind f n h) → Legal (cond b (kind n ∷ marking kind f n h) (marking kind f n h))
-      at true i = (i, o n (omega arith))
+      at true i = (i, o n)
       at false i = i
 
 module _ (from to : List ℕ) (h : History) where
@@ -155,11 +155,11 @@ module _ (n m : ℕ) (from to : List ℕ) (terminal closed : ℕ → Bool) where
       let e = marking-listed Close closed (listing from to m (marking Terminal terminal n [])) (λ s. refl) n in
       record { count = rw e (l .count); froms = rw e (l .froms); tos = rw e (l .tos) }
 
-  -- Marks and steps come before every close, and a state is closed once.
+  -- Marks and steps come before every close.
   pub canonical-legal : Legal (canonical n m from to terminal closed)
   unfolding canonical
   canonical-legal =
       marking-legal Close closed _
-      (listing-legal from to _ (marking-legal Terminal terminal [] tt n (λ s k q. let y = terminals-has q in terminal-close (y .0) s (sym (y .3)))) m unclosed)
+      (listing-legal from to _ (marking-legal Terminal terminal [] tt n (λ s q. let y = terminals-has q in terminal-close (y .0) s (sym (y .3)))) m unclosed)
       n
-      (λ s k q. ⊎-elim (λ (r, l, e, z). let w : s ≡ r = cc in omega arith) (unclosed s m) (marking-has Close closed _ s q))
+      (λ s. tt)

@@ -19,7 +19,7 @@ use Rattle.gid.proofs.Update.{the-type}
 use Rattle.tables.specs.Marks.{withNamed}
 use Rattle.adjacency.specs.Walks.{Pushed}
 use Rattle.search.specs.Escaping.{Escape, Near}
-use Rattle.engine.specs.Effects.{markAt, marksAfter}
+use Rattle.engine.specs.Effects.{markAt, setMarks}
 use Rattle.engine.specs.Preparing.{nameAt, namesAfter, InRange, Free}
 use Rattle.engine.specs.Judging.{unlessLive, quickened, endangered}
 use Rattle.engine.specs.Done.{Listed, pushed, same}
@@ -43,7 +43,7 @@ listed-none m (Terminal u) k = record { sources = refl; targets = refl; chained 
 listed-none m (Close u) k = record { sources = refl; targets = refl; chained = same refl refl refl refl refl }
 
 -- The marks of both ends of a step,
-pub marks-both : (marks : List ℕ) (e : Edge) {marks₁ marks₂ : List ℕ} → marks₁ ≡ markAt withNamed (e .from) marks → marks₂ ≡ markAt withNamed (e .to) marks₁ → marks₂ ≡ marksAfter (Step e) marks
+pub marks-both : (marks : List ℕ) (e : Edge) {marks₁ marks₂ : List ℕ} → marks₁ ≡ markAt withNamed (e .from) marks → marks₂ ≡ markAt withNamed (e .to) marks₁ → marks₂ ≡ setMarks (Step e) marks
 marks-both marks e f g = g ∙ ap (markAt withNamed (e .to)) f
 
 -- and their statuses.

@@ -1,15 +1,15 @@
 -- A close leaves the tables right: the statuses, the successors and the news are those of the history with it. Which states are dead then, and the chains of the others, is the search's theorem at the system of the history with the close.
 -- Assumes nothing.
 use mathlib.Core.Path.{_≡_, refl, sym, _∙_, ap, subst}
-use mathlib.Core.Logic.{_↔_, _⊎_, inl, inr, ⊎-elim}
+use mathlib.Core.Logic.{_⊎_, inl, inr, ⊎-elim}
 use mathlib.Core.Bool.{Bool, true, false, not, cond, _&&_, _||_, false≢true}
 use mathlib.Core.List.{List, [], _∷_, List·Memᴰ·head, List·Memᴰ·tail, List·Memᴰ·cases-cons}
-use Prim.Native.Nat.{ℕ, suc, _+_, _<_, _≤_}
+use Prim.Native.Nat.{ℕ, _<_, _≤_}
 use native.Mathlib.Omega.{arith}
 use native.Mathlib.Decide.{ℕ-discrete}
 use lib.Dec.{eqb}
 use lib.ListN.{length, getD, set, length-set}
-use lib.Seq.{getD-set-same, getD-set-other}
+use lib.Seq.{getD-set-other}
 use borrow.Author.Tests.{eqb-true, eq-eqb, ne-eqb}
 use Rattle.gid.specs.declared.Update.the-variants.{Step, Close}
 use Rattle.gid.specs.Updates.{edge}
@@ -17,9 +17,9 @@ use Rattle.gid.specs.Histories.{History, IsStep, IsTerminal, IsClosed}
 use Rattle.gid.specs.Verdicts.{Reaches, here, Live, DeadByReach}
 use Rattle.gid.specs.Statuses.{isNamed, isClosed, isLive, isDead, status, statusOpen, statusUnknown, statusLive, statusDead}
 use Rattle.gid.specs.News.{settles, news}
-use Rattle.gid.specs.Successors.{ends, follows, Having, SuccessorRule, noSuccessor}
-use Rattle.gid.specs.Systems.{ListedAt, DeadIn, system}
-use Rattle.gid.proofs.Decide.{Decides, decided, refutes, same-test, decides-or}
+use Rattle.gid.specs.Successors.{Having, noSuccessor}
+use Rattle.gid.specs.Systems.{ListedAt, system}
+use Rattle.gid.proofs.Decide.{decided, refutes, same-test, decides-or}
 use Rattle.gid.proofs.Paths.{path-within, within-newer, join, unsplit}
 use Rattle.gid.proofs.Tests.{decides-live, decides-dead, step-close, terminal-close}
 use Rattle.gid.proofs.Listing.{arc-step, stays-arc}
@@ -31,15 +31,15 @@ use Rattle.gid.proofs.After.{older, same-live-close}
 use Rattle.tables.specs.declared.Graph.{Graph}
 use Rattle.tables.specs.Tables.{Tables, visitedLength}
 use Rattle.tables.specs.Visits.{marked}
-use Rattle.tables.specs.Fitting.{StepAt, Consistent}
-use Rattle.tables.proofs.Listed.{arcs-listed, lists-of}
+use Rattle.tables.specs.Fitting.{Consistent}
+use Rattle.tables.proofs.Listed.{arcs-listed}
 use Rattle.search.specs.declared.spread.Span.{Span}
 use Rattle.search.specs.Spreading.{chains, into, outOf, Before}
 use Rattle.search.specs.Offering.{Begun}
 use Rattle.search.specs.Escaping.{toward, Near}
 use Rattle.search.specs.Searches.{SearchTables, Sweeps}
 use Rattle.search.proofs.Spreading.{begun-queued, begun-which, begun-here, begun-visited}
-use Rattle.search.proofs.Dying.{Endangers, same-starts, chained-undead, Chained, dies, dies-unknown, dies-dead, dies-within, known-kept, goes-all, goes-undead, near-goes}
+use Rattle.search.proofs.Dying.{Endangers, same-starts, chained-undead, Chained, dies-unknown, dies-dead, dies-within, known-kept, goes-all, goes-undead, near-goes}
 use Rattle.engine.specs.Preparing.{nameAt, namedByte}
 use Rattle.engine.specs.Judging.{unknownAt, followedBy, begunWith}
 use Rattle.engine.specs.Outcomes.{Right}
@@ -246,7 +246,7 @@ module _ {h : History} {g : Graph} {t : Tables} (c : Consistent h g t) (u : ℕ)
           inside = arc-inside p;
           unknown = λ s b e. let q = unknown-now unlive s b e in (q .0, λ z. q .1 (live-terminal (terminal-was h u z)));
           opened = open-else;
-          dead = λ s b e. dead-system (Close u ∷ h) .0 (dead-continued (Close u ∷ []) h (tt, unclosed) (status-dead-by-reach h s .0 (sym (unknown-else s b (λ z. not-both e (rw z unknown-here))) ∙ e)));
+          dead = λ s b e. dead-system (Close u ∷ h) .0 (dead-continued (Close u ∷ []) h (tt, tt) (status-dead-by-reach h s .0 (sym (unknown-else s b (λ z. not-both e (rw z unknown-here))) ∙ e)));
           targets = λ s i v a e. let b = arc-inside p s i v a in targets-are s v (b .0) (b .1) (step-was h u (arc-step (Close u ∷ h) a)) e;
           starting = λ s e. rw e (range, unknown-here);
           chained = λ s q d. let r = rule-listed c .escapes s (unknown-was s q d) in (r .0, chain-map {Next′ = λ v w. ListedAt (Close u ∷ h) v (getD (t .successor) v 0) w} (λ v o. old-open v o (ℕ-discrete v u)) old-unknown (λ v w x a. stays-arc h (Close u) a) (r .2));
@@ -326,7 +326,7 @@ module _ {h : History} {g : Graph} {t : Tables} (c : Consistent h g t) (u : ℕ)
           same-test (isDead (Close u ∷ h) s) (dying s || isDead h s) (decides-dead (Close u ∷ h) s)
           (decides-or (dying s) (isDead h s) {P = dying s ≡ true} (record { sound = λ e. e; complete = λ e. e }) (decides-dead h s))
           (λ d. found d (dying s) refl (decided (isDead h s) (decides-dead h s)))
-          (λ o. ⊎-elim (λ e. dead-system (Close u ∷ h) .1 (dies-dead (system (Close u ∷ h)) started (arcs-into p) (arcs-out p) (begun-queued begun (g .n) range inV inQ) only w s b e)) (dead-continued (Close u ∷ []) h (tt, unclosed)) o)
+          (λ o. ⊎-elim (λ e. dead-system (Close u ∷ h) .1 (dies-dead (system (Close u ∷ h)) started (arcs-into p) (arcs-out p) (begun-queued begun (g .n) range inV inQ) only w s b e)) (dead-continued (Close u ∷ []) h (tt, tt)) o)
         where
           found : DeadByReach (Close u ∷ h) s → (x : Bool) → dying s ≡ x → Dec (DeadByReach h s) → (dying s ≡ true) ⊎ DeadByReach h s
           found d true e q = inl e

@@ -1,10 +1,10 @@
 -- An update that is done on tables that fit for a history leaves tables that fit for the history with it, and the news is the definition's.
 -- Assumes nothing.
-use mathlib.Core.Path.{_≡_, refl, sym, ap, subst}
+use mathlib.Core.Path.{_≡_, refl, sym}
 use mathlib.Core.List.{List, _∷_}
 use Prim.Native.Nat.{ℕ, _+_, _<_, _≤_}
 use native.Mathlib.Omega.{arith}
-use lib.ListN.{length, getD, take}
+use lib.ListN.{getD, take}
 use Rattle.gid.specs.declared.Update.{Update}
 use Rattle.gid.specs.declared.Update.the-variants.{Step, Terminal, Close}
 use Rattle.gid.specs.Updates.{source}
@@ -24,7 +24,7 @@ use Rattle.engine.specs.Judging.{Judged, quiet, revived, nears, swept, q
 use Rattle.engine.specs.Outcomes.{Right}
 use Rattle.engine.specs.Done.{Done, Room, searchTables, naming}
 use Rattle.engine.specs.Promise.{Sendable}
-use Rattle.engine.proofs.Naming.{marks-after}
+use Rattle.engine.proofs.Naming.{marks-set}
 use Rattle.engine.proofs.Preparing.{Prepared, prepared, sendable-range}
 use Rattle.engine.proofs.Sending.{Sent, spread-right}
 use Rattle.engine.proofs.Reviving.{unless-some, unless-none, quiet-spreads, revived-spreads}
@@ -82,7 +82,7 @@ module _ {h : History} {g : Graph} {t : Tables} (c : Consistent h g t) (room : R
       let r = right x s o (omega (arith, steps-few x s, room .bound)) p (d .judged) in (
         record {
           inRange = p .inRange;
-          marks = rw (d .marks) (marks-after h x (t .marks) (g .n) (room .long .marks) (sendable-range (g .n) (g .limit) (g .steps) x s) (c .marks));
+          marks = rw (d .marks) (marks-set h x (t .marks) (g .n) (room .long .marks) (sendable-range (g .n) (g .limit) (g .steps) x s) (c .marks));
           steps = p .lists .count;
           from = p .lists .froms;
           to = p .lists .tos;

@@ -24,11 +24,11 @@ use Rattle.tables.proofs.Keeping.{kept-none, kept-trans, kept-set, kept-wider, 
 use Rattle.tables.proofs.Marking.{visits-wider, kept-mark as kept-visit}
 use Rattle.search.specs.declared.spread.Span.{Span}
 use Rattle.search.specs.Offering.{Begun}
-use Rattle.search.specs.Settling.{toldAll, settledFrom, Settled}
+use Rattle.search.specs.Settling.{settledFrom, Settled}
 use Rattle.search.specs.Searches.{SearchTables, Revives, Sweeps}
 use Rattle.search.proofs.Settling.{told-same}
 use Rattle.tables.specs.Marks.{withNamed, withTerminal, withClosed}
-use Rattle.engine.specs.Effects.{markAt, marksAfter}
+use Rattle.engine.specs.Effects.{markAt, setMarks}
 use Rattle.engine.specs.Preparing.{nameAt, namedByte, namesAfter, InRange}
 use Rattle.engine.specs.Judging.{Judged, quiet, revived, nears, swept, unknownAt, followedBy, begunWith}
 use Rattle.engine.specs.Done.{Done, Chained, pushed, same}
@@ -141,7 +141,7 @@ kept-name n u l h = kept-set n l u (namedByte (getD l u 0)) h
 
 -- the marks, the names and the step list
 module _ (n limit m : ℕ) where
-  marks-kept : (x : Update) → InRange n x → (l : List ℕ) → Kept n l (marksAfter x l)
+  marks-kept : (x : Update) → InRange n x → (l : List ℕ) → Kept n l (setMarks x l)
   marks-kept (Step e) s l = kept-trans (kept-mark n withNamed (e .from) l (s .0)) (kept-mark n withNamed (e .to) (markAt withNamed (e .from) l) (s .1))
   marks-kept (Terminal u) s l = kept-trans (kept-mark n withNamed u l s) (kept-mark n withTerminal u (markAt withNamed u l) s)
   marks-kept (Close u) s l = kept-trans (kept-mark n withNamed u l s) (kept-mark n withClosed u (markAt withNamed u l) s)

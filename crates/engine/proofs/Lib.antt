@@ -9,6 +9,7 @@ pub mod Reviving
 pub mod Closing
 pub mod Fitting
 pub mod Keeping
+pub mod Again
 pub mod Promising
 pub mod Running
 pub mod Twins

@@ -18,7 +18,7 @@ use Rattle.gid.specs.Statuses.{isNamed, isTerminal, isClosed, statusUnseen, sta
 use Rattle.tables.specs.Marks.{withNamed, withTerminal, withClosed}
 use Rattle.tables.specs.Fitting.{marksOf}
 use Rattle.tables.proofs.Bits.{bits, byte}
-use Rattle.engine.specs.Effects.{markAt, marksAfter}
+use Rattle.engine.specs.Effects.{markAt, setMarks}
 use Rattle.engine.specs.Preparing.{namedByte, InRange}
 
 -- an entry after a store at u
@@ -62,16 +62,16 @@ either-first true false c = refl
 either-first false true c = refl
 either-first false false c = refl
 
--- "these marks": after the update they are those of the history with it
-pub marks-after : (h : History) (x : Update) (marks : List ℕ) (n : ℕ) → n ≤ length marks → InRange n x → ((s : ℕ) → s < n → getD marks s 0 ≡ marksOf h s) → (s : ℕ) → s < n → getD (marksAfter x marks) s 0 ≡ marksOf (x ∷ h) s
+-- "these marks": with those that the update sets they are those of the history with it
+pub marks-set : (h : History) (x : Update) (marks : List ℕ) (n : ℕ) → n ≤ length marks → InRange n x → ((s : ℕ) → s < n → getD marks s 0 ≡ marksOf h s) → (s : ℕ) → s < n → getD (setMarks x marks) s 0 ≡ marksOf (x ∷ h) s
 unfolding bits marksOf isNamed isTerminal isClosed
-marks-after h (Step e) marks n l r g s k =
+marks-set h (Step e) marks n l r g s k =
     let first = mark-named marks n (e .from) l (r .0) (isNamed h) (isTerminal h) (isClosed h) g in
     mark-named (markAt withNamed (e .from) marks) n (e .to) (rw length-set l) (r .1) (λ q. eqb (e .from) q || isNamed h q) (isTerminal h) (isClosed h) first s k ∙
     ap (λ (b : Bool). bits b (isTerminal h s) (isClosed h s)) (either-first (eqb (e .from) s) (eqb (e .to) s) (isNamed h s))
-marks-after h (Terminal u) marks n l r g s k =
+marks-set h (Terminal u) marks n l r g s k =
     let first = mark-named marks n u l r (isNamed h) (isTerminal h) (isClosed h) g in
     mark-terminal (markAt withNamed u marks) n u (rw length-set l) r (λ q. eqb u q || isNamed h q) (isTerminal h) (isClosed h) first s k
-marks-after h (Close u) marks n l r g s k =
+marks-set h (Close u) marks n l r g s k =
     let first = mark-named marks n u l r (isNamed h) (isTerminal h) (isClosed h) g in
     mark-closed (markAt withNamed u marks) n u (rw length-set l) r (λ q. eqb u q || isNamed h q) (isTerminal h) (isClosed h) first s k

@@ -1,7 +1,7 @@
 -- The engine's promise, from what the tests answer and from what an accepted update does.
 -- Assumes nothing.
 use mathlib.Core.Path.{_≡_, refl, sym, _∙_, ap}
-use mathlib.Core.Bool.{true, false}
+use mathlib.Core.Bool.{true, false, false≢true}
 use mathlib.Core.List.{List}
 use mathlib.Core.Option.{some}
 use Prim.Native.Nat.{ℕ, _+_, _<_, _≤_}
@@ -18,7 +18,7 @@ use Rattle.gid.proofs.Decide.{refuted}
 use Rattle.gid.proofs.Tests.{decides-closed}
 use Rattle.tables.specs.declared.Graph.{Graph}
 use Rattle.tables.specs.Tables.{Tables, nodesOf, longEnough}
-use Rattle.tables.specs.Marks.{hasClosed}
+use Rattle.tables.specs.Marks.{hasClosed, closesAgain}
 use Rattle.tables.specs.Listing.{graphAfter}
 use Rattle.tables.specs.Refused.{isFull, given, refusalOn, lentNumber, sentNumber}
 use Rattle.tables.specs.Fitting.{Consistent}
@@ -28,7 +28,7 @@ use Rattle.tables.proofs.Refusing.{passed, neither, lent-leaves, refused-lent, 
 use Rattle.engine.specs.declared.Answer.the-variants.{Accepted, Refused}
 use Rattle.search.specs.Spreading.{chains, into, outOf, Walkable}
 use Rattle.search.specs.Escaping.{toward}
-use Rattle.engine.specs.Effects.{marksAfter}
+use Rattle.engine.specs.Effects.{setMarks}
 use Rattle.engine.specs.Preparing.{namesAfter, InRange, Free}
 use Rattle.engine.specs.Judging.{Judged}
 use Rattle.engine.specs.Done.{Listed, searchTables, Done, Room}
@@ -37,6 +37,7 @@ use Rattle.engine.proofs.Acting.{in-range-wider}
 use Rattle.engine.proofs.Preparing.{sendable-range, sendable-free}
 use Rattle.engine.proofs.Fitting.{done-fits}
 use Rattle.engine.proofs.Keeping.{done-keeps}
+use Rattle.engine.proofs.Again.{again-accepted}
 
 pub room-of : (g : Graph) (t : Tables) → lentNumber g (longEnough g t) ≡ 0 → Room (g .n) (nodesOf g) (g .limit) (g .steps) t
 room-of g t e =
@@ -44,19 +45,19 @@ room-of g t e =
     let a = long-enough (g .n) (g .n) (g .limit) t (l .longs) in
     record { states = l .few-states; bound = l .low-limit; steps = l .room; news = a .0; long = a .1 }
 
--- what the tests 5 to 9 leave
-pub sendable-of : (g : Graph) (marks : List ℕ) (x : Update) → g .steps ≤ g .limit → sentNumber g (isFull g) marks x ≡ 0 → Sendable (g .n) (g .limit) (g .steps) x × (hasClosed (getD marks (source x) 0) ≡ false)
+-- What the tests 5 to 9 leave: the first state is not closed, but where the update is a close of a closed state.
+pub sendable-of : (g : Graph) (marks : List ℕ) (x : Update) → g .steps ≤ g .limit → sentNumber g (isFull g) marks x ≡ 0 → Sendable (g .n) (g .limit) (g .steps) x × (closesAgain x marks ≡ false → hasClosed (getD marks (source x) 0) ≡ false)
 sendable-of g marks (Step d) h e =
     let p = passed (sent (given g true (isFull g) marks) (Step d)) (sent-passes g (isFull g) marks (Step d) e) in
     let r = neither (leb (g .n) (d .from)) (leb (g .n) (d .to)) (p .0) in
     let n = eqb-false (g .steps) (g .limit) (p .1 .1 .0) in
-    ((leb-false (g .n) (d .from) (r .0), leb-false (g .n) (d .to) (r .1), omega arith), p .1 .0)
+    ((leb-false (g .n) (d .from) (r .0), leb-false (g .n) (d .to) (r .1), omega arith), λ o. p .1 .0)
 sendable-of g marks (Terminal u) h e =
     let p = passed (sent (given g true (isFull g) marks) (Terminal u)) (sent-passes g (isFull g) marks (Terminal u) e) in
-    (leb-false (g .n) u (p .0), p .1 .0)
+    (leb-false (g .n) u (p .0), λ o. p .1 .0)
 sendable-of g marks (Close u) h e =
     let p = passed (sent (given g true (isFull g) marks) (Close u)) (sent-passes g (isFull g) marks (Close u) e) in
-    (leb-false (g .n) u (p .0), p .1 .0)
+    (leb-false (g .n) u (p .0), λ o. o)
 
 pub in-range : (n limit m : ℕ) (x : Update) → Sendable n limit m x → source x < n
 in-range n limit m (Step e) s = s .0
@@ -100,7 +101,7 @@ module _ {n limit m : ℕ} {t : Tables} (room : Room n n limit m t) (x : Update)
 
 -- An update is done where its parts are.
 pub done-of :
-    {n m k steps : ℕ} (t t′ : Tables) {status : List ℕ} (x : Update) → t′ .marks ≡ marksAfter x (t .marks) →
+    {n m k steps : ℕ} (t t′ : Tables) {status : List ℕ} (x : Update) → t′ .marks ≡ setMarks x (t .marks) →
     Listed m x (t .from) (t .to) (t .inHead) (t .outHead) (t .inNext) (t .outNext) (t′ .from) (t′ .to) (t′ .inHead) (t′ .outHead) (t′ .inNext) (t′ .outNext) →
     steps ≡ m + length (added x) → status ≡ namesAfter x (t .status) →
     Judged n (into (chains n steps (t′ .from) (t′ .inHead) (t′ .inNext))) (outOf (chains n steps (t′ .to) (t′ .outHead) (t′ .outNext))) (toward steps (t′ .to)) x
@@ -120,29 +121,41 @@ module _ (g : Graph) (x : Update) (t : Tables) where
     pub sent-kept : (k : ℕ) → sentNumber g (isFull g) (t .marks) x ≡ k → (k ≡ 0 → ⊥) → Promise g x t g (Refused k) t
     sent-kept k e n = refusal-kept k (refused-sent g t x lent k e n)
 
-    module _ (e : sentNumber g (isFull g) (t .marks) x ≡ 0) {t′ : Tables} {k : ℕ} (done : Done (g .n) (g .steps) t t′ k x) where
-      sendable : Sendable (g .n) (g .limit) (g .steps) x × (hasClosed (getD (t .marks) (source x) 0) ≡ false)
+    module _ (e : sentNumber g (isFull g) (t .marks) x ≡ 0) where
+      sendable : Sendable (g .n) (g .limit) (g .steps) x × (closesAgain x (t .marks) ≡ false → hasClosed (getD (t .marks) (source x) 0) ≡ false)
       sendable = sendable-of g (t .marks) x (room-of g t lent .steps) e
 
-      unclosed : {h : History} → Consistent h g t → IsClosed h (source x) → ⊥
-      unclosed {h} c = refuted (decides-closed h (source x)) (sym (closed-bit h (source x)) ∙ ap hasClosed (sym (c .marks (source x) (in-range (g .n) (g .limit) (g .steps) x (sendable .0)))) ∙ sendable .1)
-
-      -- an accepted update that is done keeps the promise
-      pub done-kept : Promise g x t (graphAfter g x) (Accepted k) t′
-      done-kept =
+      -- a close of a closed state that changes nothing keeps the promise
+      pub again-kept : closesAgain x (t .marks) ≡ true → Promise g x t g (Accepted 0) t
+      again-kept r =
           let a = accepted g t x lent e in
-          let k = done-keeps (sendable .0) done in
           record {
             number = sym a;
             refuses = λ j q. absurd (let z : _≡_ {A = ℕ} 0 1 = cc in omega arith);
-            accepts = λ q.
-                record {
-                  graph = refl;
-                  marks = done .marks;
-                  from = done .listed .sources;
-                  to = done .listed .targets;
-                  kept = k .0;
-                  named = k .1;
-                  fits = λ h l c. done-fits c (room-of g t lent) t′ x (sendable .0) (unclosed c) done;
-                };
+            accepts = λ q. again-accepted g x t r (in-range (g .n) (g .limit) (g .steps) x (sendable .0));
           }
+
+      module _ (once : closesAgain x (t .marks) ≡ false) {t′ : Tables} {k : ℕ} (done : Done (g .n) (g .steps) t t′ k x) where
+        unclosed : {h : History} → Consistent h g t → IsClosed h (source x) → ⊥
+        unclosed {h} c = refuted (decides-closed h (source x)) (sym (closed-bit h (source x)) ∙ ap hasClosed (sym (c .marks (source x) (in-range (g .n) (g .limit) (g .steps) x (sendable .0)))) ∙ sendable .1 once)
+
+        -- an accepted update that is done keeps the promise
+        pub done-kept : Promise g x t (graphAfter g x) (Accepted k) t′
+        done-kept =
+            let a = accepted g t x lent e in
+            let k = done-keeps (sendable .0) done in
+            record {
+              number = sym a;
+              refuses = λ j q. absurd (let z : _≡_ {A = ℕ} 0 1 = cc in omega arith);
+              accepts = λ q.
+                  record {
+                    graph = refl;
+                    marks = rw once (done .marks);
+                    from = done .listed .sources;
+                    to = done .listed .targets;
+                    kept = k .0;
+                    named = k .1;
+                    again = λ q. absurd (false≢true (sym once ∙ q));
+                    fits = λ h l c. done-fits c (room-of g t lent) t′ x (sendable .0) (unclosed c) done;
+                  };
+            }

@@ -50,9 +50,7 @@ module _ {h : History} {g : Graph} {t : Tables} (c : Consistent h g t) where
   sent-same long (Terminal u) =
       guarded (leb (g .n) u) (leb (g .n) u) refl (rule (hasClosed (getD (t .marks) u 0)) 6 ∷ []) (rule (isClosed h u) 6 ∷ [])
       (λ e. rw (closed-same u (leb-false (g .n) u e)))
-  sent-same long (Close u) =
-      guarded (leb (g .n) u) (leb (g .n) u) refl (rule (hasClosed (getD (t .marks) u 0)) 7 ∷ []) (rule (isClosed h u) 7 ∷ [])
-      (λ e. rw (closed-same u (leb-false (g .n) u e)))
+  sent-same long (Close u) = refl
 
   -- The number on the tables is the one by the history.
   pub same-refusal : longEnough g t ≡ true → (x : Update) → refusalOn g t x ≡ refusal (givenAfter (g .n) (g .limit) h) x

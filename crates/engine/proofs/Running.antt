@@ -11,14 +11,14 @@ use borrow.Author.Tests.{lt-leb, le-ltb, ne-eqb}
 use Rattle.gid.specs.declared.Update.{Update}
 use Rattle.gid.specs.declared.Update.the-variants.{Step, Terminal, Close}
 use Rattle.gid.specs.Updates.{source}
-use Rattle.gid.specs.Histories.{History, Legal, IsClosed}
+use Rattle.gid.specs.Histories.{History, MayFollow, Legal, IsClosed}
 use Rattle.gid.specs.Statuses.{isClosed}
 use Rattle.gid.specs.Refusals.{lent, sent, refusal, maxStates, maxSteps}
 use Rattle.gid.proofs.Decide.{refutes, refuted}
 use Rattle.gid.proofs.Tests.{decides-closed}
 use Rattle.tables.specs.declared.Graph.{Graph}
 use Rattle.tables.specs.Tables.{Tables, lengths, longEnough}
-use Rattle.tables.specs.Marks.{hasClosed}
+use Rattle.tables.specs.Marks.{hasClosed, closesAgain}
 use Rattle.tables.specs.Listing.{graphAfter}
 use Rattle.tables.specs.Refused.{isFull, given, refusalOn}
 use Rattle.tables.specs.Fitting.{Checked, Consistent, Fresh}
@@ -54,7 +54,7 @@ pub record Sound (g₀ : Graph) (t₀ : Tables) (h : History) (g : Graph) (t : T
   pub sizes : lengths t ≡ lengths t₀
   pub room : g .steps ≤ g .limit
 
--- an update sent from a state that is not closed meets neither 6 nor 7
+-- an update sent from a state that is not closed does not meet 6
 pub unmarked : {h : History} {g : Graph} {t : Tables} → Consistent h g t → (u : ℕ) → u < g .n → (IsClosed h u → ⊥) → hasClosed (getD (t .marks) u 0) ≡ false
 unmarked {h} c u r o = rw (c .marks u r) (closed-bit h u ∙ refutes (isClosed h u) (decides-closed h u) o)
 
@@ -64,19 +64,27 @@ module _ {g₀ : Graph} {t₀ : Tables} where
   sound-checked {h} s c =
       record { legal = s .legal; fits = c .fits h (s .legal) (s .fits); states = s .states; limit = s .limit; sizes = c .sizes ∙ s .sizes; room = s .room }
 
-  -- what is accepted is not sent from a closed state
-  pub unclosed : {h : History} {g : Graph} {t : Tables} → Sound g₀ t₀ h g t → (x : Update) → refusalOn g t x ≡ none → IsClosed h (source x) → ⊥
-  unclosed {h} {g} {t} s x e =
+  -- what is accepted may follow what was
+  pub follows : {h : History} {g : Graph} {t : Tables} → Sound g₀ t₀ h g t → (x : Update) → refusalOn g t x ≡ none → MayFollow h x
+  follows {h} {g} {t} s x e =
       let p = accepted-passes g t x e in
       let q = sendable-of g (t .marks) x (s .room) (p .1) in
-      refuted (decides-closed h (source x)) (sym (closed-bit h (source x)) ∙ ap hasClosed (sym (s .fits .marks (source x) (in-range (g .n) (g .limit) (g .steps) x (q .0)))) ∙ q .1)
+      at x (in-range (g .n) (g .limit) (g .steps) x (q .0)) (q .1)
+    where
+      unclosed : (u : ℕ) → u < g .n → hasClosed (getD (t .marks) u 0) ≡ false → IsClosed h u → ⊥
+      unclosed u r q = refuted (decides-closed h u) (sym (closed-bit h u) ∙ ap hasClosed (sym (s .fits .marks u r)) ∙ q)
+
+      at : (y : Update) → source y < g .n → (closesAgain y (t .marks) ≡ false → hasClosed (getD (t .marks) (source y) 0) ≡ false) → MayFollow h y
+      at (Step d) r q = unclosed (d .from) r (q refl)
+      at (Terminal u) r q = unclosed u r (q refl)
+      at (Close u) r q = tt
 
   pub sound-accepted : {h : History} {g g′ : Graph} {t t′ : Tables} {x : Update} {a : Answer} → Sound g₀ t₀ h g t → refusalOn g t x ≡ none → AcceptedUpdate g x t g′ t′ a → Sound g₀ t₀ (x ∷ h) g′ t′
   sound-accepted {h} {g} {g′} {t} {t′} {x} s e a =
       let q = accepted-passes g t x e in
       let d = sendable-of g (t .marks) x (s .room) (q .1) in
       record {
-        legal = (s .legal, unclosed s x e);
+        legal = (s .legal, follows s x e);
         fits = a .fits h (s .legal) (s .fits) .0;
         states = ap (λ (e : Graph). e .n) (a .graph) ∙ s .states;
         limit = ap (λ (e : Graph). e .limit) (a .graph) ∙ s .limit;
@@ -89,8 +97,8 @@ module _ {g₀ : Graph} {t₀ : Tables} where
   sound f (accepted r c x k p) = let a = was-accepted p in sound-accepted (sound-checked (sound f r) c) (a .0) (a .1)
   sound f (refused r c x k p) = let q = was-refused p in rw (q .1, q .2) (sound-checked (sound f r) c)
 
-  -- Where the tests 1 to 4 find nothing, an update in range, from a state that is not closed and, for a step, with a free place is accepted.
-  pub not-refused : {h : History} {g : Graph} {t : Tables} → Sound g₀ t₀ h g t → 0 < g .n → g .n ≤ maxStates → 0 < g .limit → g .limit ≤ maxSteps → longEnough g t ≡ true → (x : Update) → Sendable (g .n) (g .limit) (g .steps) x → (IsClosed h (source x) → ⊥) → refusalOn g t x ≡ none
+  -- Where the tests 1 to 4 find nothing, an update in range that may follow and, for a step, has a free place is accepted.
+  pub not-refused : {h : History} {g : Graph} {t : Tables} → Sound g₀ t₀ h g t → 0 < g .n → g .n ≤ maxStates → 0 < g .limit → g .limit ≤ maxSteps → longEnough g t ≡ true → (x : Update) → Sendable (g .n) (g .limit) (g .steps) x → MayFollow h x → refusalOn g t x ≡ none
   unfolding refusal
   not-refused {h} {g} {t} s a b c d e x r o =
       first-none (lent (given g (longEnough g t) (isFull g) (t .marks)))
@@ -104,10 +112,10 @@ module _ {g₀ : Graph} {t₀ : Tables} where
       )) ∙
       none-applies (sent (given g (longEnough g t) (isFull g) (t .marks)) x) (sents x r o)
     where
-      sents : (y : Update) → Sendable (g .n) (g .limit) (g .steps) y → (IsClosed h (source y) → ⊥) → NoneApply (sent (given g (longEnough g t) (isFull g) (t .marks)) y)
+      sents : (y : Update) → Sendable (g .n) (g .limit) (g .steps) y → MayFollow h y → NoneApply (sent (given g (longEnough g t) (isFull g) (t .marks)) y)
       sents (Step d) q n = (
         rw (lt-leb (g .n) (d .from) (q .0)) (lt-leb (g .n) (d .to) (q .1)),
         (unmarked (s .fits) (d .from) (q .0) n, (ne-eqb (g .steps) (g .limit) (λ z. absurd (omega (arith, q .2))), tt)),
       )
       sents (Terminal u) q n = (lt-leb (g .n) u q, (unmarked (s .fits) u q n, tt))
-      sents (Close u) q n = (lt-leb (g .n) u q, (unmarked (s .fits) u q n, tt))
+      sents (Close u) q n = (lt-leb (g .n) u q, tt)

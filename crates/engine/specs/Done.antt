@@ -1,4 +1,4 @@
--- What an accepted update does, on tables with any contents.
+-- What an accepted update does that is no close of a closed state, on tables with any contents.
 -- Assumes nothing.
 use mathlib.Core.Path.{_≡_}
 use mathlib.Core.List.{List, []}
@@ -15,7 +15,7 @@ use Rattle.adjacency.specs.Walks.{Pushed}
 use Rattle.search.specs.Spreading.{chains, into, outOf}
 use Rattle.search.specs.Escaping.{toward}
 use Rattle.search.specs.Searches.{SearchTables}
-use Rattle.engine.specs.Effects.{marksAfter}
+use Rattle.engine.specs.Effects.{setMarks}
 use Rattle.engine.specs.Preparing.{namesAfter}
 use Rattle.engine.specs.Judging.{Judged}
 
@@ -39,7 +39,7 @@ naming x b = record { status = namesAfter x (b .status); successor = b .successo
 
 -- The update x is done on tables with n states and m steps: k news.
 pub record Done (n m : ℕ) (t t′ : Tables) (k : ℕ) (x : Update) : Type 0 where
-  pub marks : t′ .marks ≡ marksAfter x (t .marks)
+  pub marks : t′ .marks ≡ setMarks x (t .marks)
   pub listed : Listed m x (t .from) (t .to) (t .inHead) (t .outHead) (t .inNext) (t .outNext) (t′ .from) (t′ .to) (t′ .inHead) (t′ .outHead) (t′ .inNext) (t′ .outNext)
   pub judged :
       Judged n (into (chains n (m + length (added x)) (t′ .from) (t′ .inHead) (t′ .inNext))) (outOf (chains n (m + length (added x)) (t′ .to) (t′ .outHead) (t′ .outNext)))

@@ -1,6 +1,7 @@
 -- The promise of an update, on all inputs: state values, tables and the answer, before and after.
 -- Assumes nothing.
 use mathlib.Core.Path.{_≡_}
+use mathlib.Core.Bool.{true}
 use mathlib.Core.List.{List, [], _∷_, List·Memᴰ}
 use mathlib.Core.Option.{some, none}
 use Prim.Native.Nat.{ℕ, _<_, _≤_}
@@ -10,6 +11,7 @@ use Rattle.gid.specs.Histories.{History, Legal}
 use Rattle.gid.specs.News.{news, Rising}
 use Rattle.tables.specs.declared.Graph.{Graph}
 use Rattle.tables.specs.Tables.{Tables, nodesOf}
+use Rattle.tables.specs.Marks.{closesAgain}
 use Rattle.tables.specs.Keeping.{Kept, KeptTables}
 use Rattle.tables.specs.Listing.{fromAfter, toAfter, graphAfter}
 use Rattle.tables.specs.Refused.{refusalOn}
@@ -35,6 +37,8 @@ pub record AcceptedUpdate (g : Graph) (x : Update) (t : Tables) (g′ : Graph) (
   -- every table below its needed length alone, and the news. What statuses, successors and work tables hold there is free on tables that do not fit.
   pub kept : KeptTables (g .n) (nodesOf g) (g .limit) t t′
   pub named : NewsKept (g .n) (t .news) (t′ .news) answer
+  -- "A close of a closed state": "no news and no change" (document 02, #102).
+  pub again : closesAgain x (t .marks) ≡ true → (newsCount answer ≡ 0) × (g′ ≡ g) × (t′ ≡ t)
   -- On tables that fit for a legal history h: they fit for h followed by x, and the news is the definition's.
   pub fits : (h : History) → Legal h → Consistent h g t → Consistent (x ∷ h) g′ t′ × (newsOf answer (t′ .news) ≡ news (g .n) h x)
 

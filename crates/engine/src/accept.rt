@@ -1,4 +1,4 @@
-// What an accepted update does: it is listed and marked, and then judged.
+// What an accepted update does, where it changes something: it is listed and marked, and then judged.
 ghost use mathlib.Core.Path.{_≡_};
 ghost use Prim.Native.Nat.{_≤_, _<_};
 ghost use lib.ListN.{length};
@@ -8,7 +8,7 @@ ghost use Rattle.tables.specs.Tables.{visitedLength};
 ghost use Rattle.tables.specs.Marks.{withNamed};
 ghost use Rattle.search.specs.Spreading.{chains, into, outOf, Walkable};
 ghost use Rattle.search.specs.Escaping.{toward};
-ghost use Rattle.engine.specs.Effects.{markAt, marksAfter};
+ghost use Rattle.engine.specs.Effects.{markAt, setMarks};
 ghost use Rattle.engine.specs.Preparing.{nameAt, namesAfter, InRange, Free};
 ghost use Rattle.engine.specs.Judging.{unlessLive, quickened, endangered, Judged};
 ghost use Rattle.engine.specs.Done.{Listed};
@@ -56,7 +56,7 @@ pub fn list(
 // Names the states of an update and marks its first one.
 pub fn mark(update: Update, status: &mut [u8], marks: &mut [u8])
     requires { ⌜ InRange (length (now status)) update × InRange (length (now marks)) update ⌝ }
-    ensures { λ _. ⌜ (now (status .exit) ≡ namesAfter update (now (status .entry))) × (now (marks .exit) ≡ marksAfter update (now (marks .entry))) ⌝ }
+    ensures { λ _. ⌜ (now (status .exit) ≡ namesAfter update (now (status .entry))) × (now (marks .exit) ≡ setMarks update (now (marks .entry))) ⌝ }
 {
     match update {
         Update::Step { edge } => {

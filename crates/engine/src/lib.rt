@@ -12,6 +12,7 @@ mod accept;
 use gid::Update;
 use tables::Graph;
 use tables::Lengths;
+use tables::closes_again;
 
 // What an update answers: accepted, with the number of its news, or refused, with document 01's number.
 pub enum Answer {
@@ -31,7 +32,7 @@ pub struct Updated {
 }
 
 impl Engine {
-    // Makes one update on the tables. Refused, it changes nothing and returns the state value as it came.
+    // Makes one update on the tables. Refused, or a close of a closed state, it changes nothing and returns the state value as it came.
     pub fn update(
         self,
         update: Update,
@@ -80,6 +81,12 @@ impl Engine {
             return Updated {
                 engine: self,
                 answer: Answer::Refused(sent),
+            };
+        }
+        if closes_again(update, marks) {
+            return Updated {
+                engine: self,
+                answer: Answer::Accepted(0),
             };
         }
         accept::list(

@@ -12,6 +12,7 @@ use Rattle.gid.specs.Verdicts.{DeadByReach}
 use Rattle.gid.specs.Statuses.{isLive, isDead}
 use Rattle.gid.proofs.Decide.{same-test}
 use Rattle.gid.proofs.Paths.{path-within, within-newer, unsplit}
+use Rattle.gid.proofs.Following.{unclosed-follows}
 use Rattle.gid.proofs.Tests.{decides-live, decides-dead, step-close, terminal-close}
 use Rattle.gid.proofs.Deadness.{live-within, dead-continued}
 
@@ -29,7 +30,7 @@ same-live-close h u s =
 -- A step or a terminal mark sent from a state that is not closed makes no state dead, and none that is dead ceases to be.
 module _ {h : History} {x : Update} (sent : (s : ℕ) → Close s ≡ x → ⊥) (unclosed : IsClosed h (source x) → ⊥) where
   dead-kept : {s : ℕ} → DeadByReach h s → DeadByReach (x ∷ h) s
-  dead-kept = dead-continued (x ∷ []) h (tt, unclosed)
+  dead-kept = dead-continued (x ∷ []) h (tt, unclosed-follows x unclosed)
 
   dead-was : {s : ℕ} → DeadByReach (x ∷ h) s → DeadByReach h s
   dead-was d v p =

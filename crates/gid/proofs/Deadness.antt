@@ -1,13 +1,13 @@
 -- The verdicts of a history are those of its system; so the two forms of dead are equal on legal histories, verdicts stay under every legal continuation, and live and dead go by one step at a time.
 -- Assumes nothing.
-use mathlib.Core.Path.{_≡_, refl, sym, subst, _∙_}
+use mathlib.Core.Path.{refl, sym, subst, _∙_}
 use mathlib.Core.Logic.{⊎-elim, _↔_}
 use mathlib.Core.List.{[], _∷_, _++_, append-assoc, List·Memᴰ·head, List·Memᴰ·tail, List·Memᴰ·cases-cons, Memᴰ·append-right}
 use Prim.Native.Nat.{ℕ}
 use Rattle.gid.specs.declared.Update.{Update}
-use Rattle.gid.specs.declared.Update.the-variants.{Step, Terminal}
+use Rattle.gid.specs.declared.Update.the-variants.{Step, Terminal, Close}
 use Rattle.gid.specs.Updates.{edge, source}
-use Rattle.gid.specs.Histories.{History, Has, IsStep, IsTerminal, IsClosed, Legal, Continues}
+use Rattle.gid.specs.Histories.{History, Has, IsStep, IsTerminal, IsClosed, MayFollow, Legal, Continues}
 use Rattle.gid.specs.Verdicts.{Reaches, here, along, Live, Dead, DeadByReach}
 use Rattle.gid.specs.Systems.{LiveIn, goal, by-arc, ReachesIn, here as at-node, along as by-target, DeadIn, Grows, system}
 use Rattle.gid.specs.Statuses.{isClosed}
@@ -60,7 +60,7 @@ dead-stays c d f e = d f (continues-trans c e)
 -- The updates of k are legal behind h.
 abbrev pub LegalBehind : History → History → Type 0
 LegalBehind h [] = Unit {0}
-LegalBehind h (y ∷ k) = LegalBehind h k × (IsClosed (k ++ h) (source y) → ⊥)
+LegalBehind h (y ∷ k) = LegalBehind h k × MayFollow (k ++ h) y
 
 legal-behind : (k h : History) → Legal (k ++ h) → LegalBehind h k
 legal-behind [] h l = tt
@@ -69,10 +69,13 @@ legal-behind (y ∷ k) h l = (legal-behind k h (l .0), l .1)
 -- What was sent from a state closed in h was sent by then.
 frozen : (k h : History) → LegalBehind h k → (x : Update) → IsClosed h (source x) → Has (k ++ h) x → Has h x
 frozen [] h l x c m = m
-frozen (y ∷ k) h l x c m = ⊎-elim newest (frozen k h (l .0) x c) (List·Memᴰ·cases-cons m)
+frozen (y ∷ k) h l x c m = ⊎-elim (λ e. newest x c (subst (λ (z : Update). MayFollow (k ++ h) z) (sym e) (l .1))) (frozen k h (l .0) x c) (List·Memᴰ·cases-cons m)
   where
-    newest : x ≡ y → Has h x
-    newest e = absurd (l .1 (Memᴰ·append-right k (subst (λ (z : Update). IsClosed h (source z)) e c)))
+    -- of what is sent from a closed state, a close alone may come again
+    newest : (z : Update) → IsClosed h (source z) → MayFollow (k ++ h) z → Has h z
+    newest (Step e) q f = absurd (f (Memᴰ·append-right k q))
+    newest (Terminal u) q f = absurd (f (Memᴰ·append-right k q))
+    newest (Close u) q f = q
 
 -- A legal continuation grows at states that are not closed.
 pub grows : (k h : History) → LegalBehind h k → Grows (system h) (system (k ++ h))

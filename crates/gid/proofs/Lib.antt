@@ -2,6 +2,7 @@
 pub mod Decide
 pub mod Systems
 pub mod Paths
+pub mod Following
 pub mod Tests
 pub mod Listing
 pub mod Deadness
@@ -10,5 +11,6 @@ pub mod Statuses
 pub mod News
 pub mod Chains
 pub mod Pruning
+pub mod Repeats
 pub mod Examples
 pub mod Worked

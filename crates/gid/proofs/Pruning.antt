@@ -16,6 +16,7 @@ use Rattle.gid.specs.News.{settles, news}
 use Rattle.gid.specs.Pruning.{Pruned, start, keep, leave, Agrees}
 use Rattle.gid.proofs.Decide.{decided, refuted, same-test, decides-iff}
 use Rattle.gid.proofs.Paths.{Inside, within-newer}
+use Rattle.gid.proofs.Following.{follows-within}
 use Rattle.gid.proofs.Tests.{decides-live, decides-dead, decides-closed, decides-named}
 use Rattle.gid.proofs.Systems.{live-carried, dead-pruned, dead-full}
 use Rattle.gid.proofs.Listing.{within-steps}
@@ -114,7 +115,7 @@ module _ {f p : History} (k : Keeps f p) where
       at false e = rw (same-live s, same-dead s, same-closed e, same-named)
 
 -- What was left out had no news.
-no-news : (n : ℕ) {f p : History} (x : Update) → Keeps f p → Keeps (x ∷ f) p → news n f x ≡ []
+pub no-news : (n : ℕ) {f p : History} (x : Update) → Keeps f p → Keeps (x ∷ f) p → news n f x ≡ []
 unfolding news settles
 no-news n {f} {p} x k k′ =
     below-none n (settles f x) λ s h. rw (same-live k′ s, same-live k s, same-dead k′ s, same-dead k s) (never (isLive p s) (isDead p s))
@@ -132,7 +133,7 @@ same-news n {f} {p} x k k′ =
 
 legal-pruned : {f p : History} → Pruned f p → Legal f → Legal p
 legal-pruned start l = l
-legal-pruned (keep x c) l = (legal-pruned c (l .0), λ m. l .1 (keeps c .part (Close (source x)) m))
+legal-pruned (keep x c) l = (legal-pruned c (l .0), follows-within (keeps c .part) x (l .1))
 legal-pruned (leave x q c) l = legal-pruned c (l .0)
 
 -- Pruning, on histories: for every list of legal updates and every choice of updates sent from a state already live, the pruned history is legal, and the two agree.

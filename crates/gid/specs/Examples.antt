@@ -1,4 +1,4 @@
--- The marked examples of document 01, as one list of cases. proofs/Examples.antt proves them of the definitions.
+-- The marked examples of document 01, and a close that comes again (document 02, #102), as one list of cases. proofs/Examples.antt proves them of the definitions.
 -- Assumes nothing.
 use mathlib.Core.List.{List, [], _∷_}
 use Prim.Native.Nat.{ℕ}
@@ -65,4 +65,8 @@ cases =
     at 1 (step 0 1 ∷ step 0 1 ∷ []) (Terminal 0) (accepted (0 ∷ [])) (3 ∷ 1 ∷ 0 ∷ []) ∷
     -- 12. T 0, E 0 1, E 1 2, C 1, C 2, and the same without E 0 1: last news is 1 and 2, dead, in both.
     at 4 (Terminal 0 ∷ step 0 1 ∷ step 1 2 ∷ Close 1 ∷ []) (Close 2) (accepted (1 ∷ 2 ∷ [])) (3 ∷ 4 ∷ 4 ∷ []) ∷
-    at 4 (Terminal 0 ∷ step 1 2 ∷ Close 1 ∷ []) (Close 2) (accepted (1 ∷ 2 ∷ [])) (3 ∷ 4 ∷ 4 ∷ []) ∷ []
+    at 4 (Terminal 0 ∷ step 1 2 ∷ Close 1 ∷ []) (Close 2) (accepted (1 ∷ 2 ∷ [])) (3 ∷ 4 ∷ 4 ∷ []) ∷
+    -- A close of a closed state, dead, live or unknown: accepted, no news, and each status as it was.
+    at 4 (Close 0 ∷ []) (Close 0) (accepted []) (4 ∷ 0 ∷ 0 ∷ []) ∷
+    at 4 (Terminal 0 ∷ Close 0 ∷ []) (Close 0) (accepted []) (3 ∷ 0 ∷ 0 ∷ []) ∷
+    at 4 (step 0 1 ∷ Close 0 ∷ []) (Close 0) (accepted []) (2 ∷ 1 ∷ 0 ∷ []) ∷ []

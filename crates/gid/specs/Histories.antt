@@ -1,4 +1,4 @@
--- Histories: the updates that were accepted, and which of them are legal. Document 000, section 2.1, calls a legal history a valid GID.
+-- Histories: the updates that were accepted, and which of them are legal. Document 000, section 2.1, calls a legal history a valid GID, and lets a close come again.
 -- Assumes nothing.
 use mathlib.Core.Path.{_≡_}
 use mathlib.Core.List.{List, [], _∷_, _++_, List·Memᴰ}
@@ -6,7 +6,7 @@ use Prim.Native.Nat.{ℕ}
 use Rattle.gid.specs.declared.Edge.{Edge}
 use Rattle.gid.specs.declared.Update.{Update}
 use Rattle.gid.specs.declared.Update.the-variants.{Step, Terminal, Close}
-use Rattle.gid.specs.Updates.{edge, source, Mentions}
+use Rattle.gid.specs.Updates.{edge, Mentions}
 
 -- A history is the list of its updates, the newest first: `x ∷ h` is the history h followed by the update x.
 abbrev pub History : Type 0
@@ -35,10 +35,16 @@ IsClosed h s = Has h (Close s)
 abbrev pub IsNamed : History → ℕ → Type 0
 IsNamed h s = (x : Update) × Has h x × Mentions x s
 
--- "A history is legal if no step leaves, and no terminal mark or close is put on, a state already closed."
+-- The update x may follow the history h: "no step and no terminal mark follows a close of its first state" (document 02, #102). A close always may.
+abbrev pub MayFollow : History → Update → Type 0
+MayFollow h (Step e) = IsClosed h (e .from) → ⊥
+MayFollow h (Terminal u) = IsClosed h u → ⊥
+MayFollow h (Close u) = Unit {0}
+
+-- A history is legal if each of its updates may follow those before it.
 abbrev pub Legal : History → Type 0
 Legal [] = Unit {0}
-Legal (x ∷ h) = Legal h × (IsClosed h (source x) → ⊥)
+Legal (x ∷ h) = Legal h × MayFollow h x
 
 -- g continues h: document 000's extension, of which h is a prefix.
 abbrev pub Continues : History → History → Type 0

@@ -1,4 +1,4 @@
--- The numbers 1 to 9, without 8 (document 02, #110): which updates are refused. Document 01, "Numbers by who causes them": "Tests run in rising order and the first that applies is given."
+-- The numbers 1 to 9, without 7 and 8 (document 02, #102 and #110): which updates are refused. Document 01, "Numbers by who causes them": "Tests run in rising order and the first that applies is given."
 -- Assumes nothing.
 use mathlib.Core.Bool.{Bool, not, cond, _||_}
 use mathlib.Core.List.{List, [], _∷_, _++_}
@@ -51,9 +51,7 @@ sent g (Step e) =
 sent g (Terminal u) =
     record { applies = leb (g .n) u; number = 5 } ∷
     record { applies = g .closed u; number = 6 } ∷ []
-sent g (Close u) =
-    record { applies = leb (g .n) u; number = 5 } ∷
-    record { applies = g .closed u; number = 7 } ∷ []
+sent g (Close u) = record { applies = leb (g .n) u; number = 5 } ∷ []
 
 -- The number with which an update is refused, or none: it is accepted.
 unfoldable pub refusal : Given → Update → Option ℕ

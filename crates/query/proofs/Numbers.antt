@@ -42,7 +42,7 @@ lent-few g l a = (omega arith, (omega arith, (omega arith, (omega arith, a))))
 sent-few : (g : Given) (x : Update) → AllFew (sent g x)
 sent-few g (Step e) = (omega arith, (omega arith, (omega arith, tt)))
 sent-few g (Terminal u) = (omega arith, (omega arith, tt))
-sent-few g (Close u) = (omega arith, (omega arith, tt))
+sent-few g (Close u) = (omega arith, tt)
 
 -- of an update,
 answered-few : {g g′ : Graph} {x : Update} {t t′ : Tables} (line : ℕ) (a : Answer) → Promise g x t g′ a t′ → Few (lineAnswer line a)

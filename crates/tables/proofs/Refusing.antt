@@ -58,7 +58,7 @@ lent-numbered g = (omega arith, (omega arith, (omega arith, (omega arith, tt))))
 sent-numbered : (g : Given) (x : Update) → Positive (sent g x)
 sent-numbered g (Step e) = (omega arith, (omega arith, (omega arith, tt)))
 sent-numbered g (Terminal u) = (omega arith, (omega arith, tt))
-sent-numbered g (Close u) = (omega arith, (omega arith, tt))
+sent-numbered g (Close u) = (omega arith, tt)
 
 -- The tests 5 to 9 do not turn on the tables' lengths.
 sent-any : (g : Graph) (long full : Bool) (marks : List ℕ) (x : Update) → first (sent (given g long full marks) x) ≡ first (sent (given g true full marks) x)

@@ -1,11 +1,14 @@
 // What the engine is handed, and what it refuses: the state value, the caller's tables, the numbers 1 to 9, the mark bits, and the status question.
 ghost use mathlib.Core.Path.{_≡_};
 ghost use mathlib.Core.Bool.{Bool};
-ghost use Prim.Native.Nat.{_≤_, _<_};
+ghost use mathlib.Core.List.{List};
+ghost use Prim.Native.Nat.{ℕ, _≤_, _<_};
 ghost use lib.ListN.{length};
 ghost use Rattle.tables.specs.Refused.{isFull, lentNumber, sentNumber, statusOutcome, statusAnswer};
+ghost use Rattle.gid.specs.Updates.{source};
 ghost use Rattle.gid.specs.Histories.{added};
 ghost use Rattle.tables.specs.Tables.{nodesOf};
+ghost use Rattle.tables.specs.Marks.{closesAgain};
 ghost use Rattle.tables.specs.Listing.{graphAfter};
 
 mod entries;
@@ -61,8 +64,6 @@ pub const EXCESS_STEPS: u8 = 4;
 pub const OUT_OF_RANGE: u8 = 5;
 
 pub const CLOSED_SOURCE: u8 = 6;
-
-pub const CLOSED_AGAIN: u8 = 7;
 
 pub const LIST_FULL: u8 = 9;
 
@@ -130,7 +131,7 @@ impl Graph {
         match update {
             Update::Step { edge } => self.sent_step(full, edge, marks),
             Update::Terminal { state } => self.sent_terminal(state, marks),
-            Update::Close { state } => self.sent_close(state, marks),
+            Update::Close { state } => self.sent_close(state),
         }
     }
 
@@ -154,7 +155,7 @@ impl Graph {
         0
     }
 
-    // A terminal mark and a close take no place: what they get does not turn on whether a step finds one.
+    // A terminal mark takes no place: what it gets does not turn on whether a step finds one.
     fn sent_terminal(self, state: usize, marks: &[u8]) -> u8
         requires { ⌜ self .n ≤ length (now marks) ⌝ }
         ensures { λ r. ⌜ ((full : Bool) → r ≡ sentNumber self full (now (marks .entry)) (Update.Terminal state)) ⌝ }
@@ -168,15 +169,12 @@ impl Graph {
         0
     }
 
-    fn sent_close(self, state: usize, marks: &[u8]) -> u8
-        requires { ⌜ self .n ≤ length (now marks) ⌝ }
-        ensures { λ r. ⌜ ((full : Bool) → r ≡ sentNumber self full (now (marks .entry)) (Update.Close state)) ⌝ }
+    // Nor does a close, and no mark turns one away.
+    fn sent_close(self, state: usize) -> u8
+        ensures { λ r. ⌜ ((full : Bool) (marks : List ℕ) → r ≡ sentNumber self full marks (Update.Close state)) ⌝ }
     {
         if self.n <= state {
             return OUT_OF_RANGE;
-        }
-        if has_closed(marks[state]) {
-            return CLOSED_AGAIN;
         }
         0
     }
@@ -205,6 +203,18 @@ impl Graph {
             return Status::Refused(OUT_OF_RANGE);
         }
         Status::Byte(status[state])
+    }
+}
+
+// Whether an update closes a state that is marked closed: it is accepted, and changes nothing.
+pub fn closes_again(update: Update, marks: &[u8]) -> bool
+    requires { ⌜ source update < length (now marks) ⌝ }
+    ensures { λ r. ⌜ r ≡ closesAgain update (now (marks .entry)) ⌝ }
+{
+    match update {
+        Update::Step { edge: _ } => false,
+        Update::Terminal { state: _ } => false,
+        Update::Close { state } => has_closed(marks[state]),
     }
 }
 

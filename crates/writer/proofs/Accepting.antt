@@ -11,8 +11,8 @@ use lib.ListN.{length, length-append}
 use borrow.Author.Tests.{lt-leb, le-ltb, ne-eqb}
 use Rattle.gid.specs.declared.Update.{Update}
 use Rattle.gid.specs.declared.Update.the-variants.{Step, Terminal, Close}
-use Rattle.gid.specs.Updates.{source, Mentions}
-use Rattle.gid.specs.Histories.{History, IsClosed, Legal, following, added, listed}
+use Rattle.gid.specs.Updates.{Mentions}
+use Rattle.gid.specs.Histories.{History, IsClosed, MayFollow, Legal, following, added, listed}
 use Rattle.gid.specs.Statuses.{isClosed}
 use Rattle.gid.specs.News.{news}
 use Rattle.gid.specs.Refusals.{lent, sent, refusal, maxSteps}
@@ -39,8 +39,8 @@ fewer-before h [] = omega arith
 fewer-before h (x ∷ l) = omega (arith, length-append (listed h) (added x), fewer-before (x ∷ h) l)
 
 module _ (limit : ℕ) (some-limit : 0 < limit) (low : limit ≤ maxSteps) where
-  -- no test applies to an update from a state that is not closed
-  unrefused : (h : History) (x : Update) → StatesBelow readerStates x → (IsClosed h (source x) → ⊥) → length (listed (x ∷ h)) ≤ limit → refusal (givenAfter readerStates limit h) x ≡ none
+  -- no test applies to an update that may follow
+  unrefused : (h : History) (x : Update) → StatesBelow readerStates x → MayFollow h x → length (listed (x ∷ h)) ≤ limit → refusal (givenAfter readerStates limit h) x ≡ none
   unfolding refusal givenAfter listed
   unrefused h x r o c = first-none (lent (givenAfter readerStates limit h)) (sent (givenAfter readerStates limit h) x) (none-applies (lent (givenAfter readerStates limit h)) (lent-passed (fewer-before h (x ∷ [])))) ∙ none-applies (sent (givenAfter readerStates limit h) x) (sent-passed x r o c)
     where
@@ -50,10 +50,10 @@ module _ (limit : ℕ) (some-limit : 0 < limit) (low : limit ≤ maxSteps) where
       unclosed : (u : ℕ) → (IsClosed h u → ⊥) → isClosed h u ≡ false
       unclosed u n = refutes (isClosed h u) (decides-closed h u) n
 
-      sent-passed : (y : Update) → StatesBelow readerStates y → (IsClosed h (source y) → ⊥) → length (listed (y ∷ h)) ≤ limit → NoneApply (sent (givenAfter readerStates limit h) y)
+      sent-passed : (y : Update) → StatesBelow readerStates y → MayFollow h y → length (listed (y ∷ h)) ≤ limit → NoneApply (sent (givenAfter readerStates limit h) y)
       sent-passed (Step e) q n k = (rw (lt-leb readerStates (e .from) (q (e .from) (inl refl)), lt-leb readerStates (e .to) (q (e .to) (inr refl))), (unclosed (e .from) n, (ne-eqb (length (listed h)) limit (λ z. omega (arith, length-append (listed h) (e ∷ []))), tt)))
       sent-passed (Terminal u) q n k = (lt-leb readerStates u (q u refl), (unclosed u n, tt))
-      sent-passed (Close u) q n k = (lt-leb readerStates u (q u refl), (unclosed u n, tt))
+      sent-passed (Close u) q n k = (lt-leb readerStates u (q u refl), tt)
 
   accepts : (h : History) (x : Update) → refusal (givenAfter readerStates limit h) x ≡ none → (outcome readerStates limit h x ≡ accepted (news readerStates h x)) × (after readerStates limit h x ≡ x ∷ h)
   unfolding outcome after

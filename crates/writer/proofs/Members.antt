@@ -7,19 +7,17 @@ use mathlib.Core.List.{List, [], _∷_, _++_, append-assoc, append-nil, List·Me
 use Prim.Native.Nat.{ℕ, zero, suc, _+_, _≤_, _<_}
 use native.Mathlib.Omega.{arith}
 use native.Mathlib.Decide.{ℕ-discrete}
-use lib.ListN.{length, getD, take, length-take}
+use lib.ListN.{getD, take}
 use lib.Seq.{take-suc, take-length}
 use Rattle.gid.specs.declared.Edge.{Edge}
 use Rattle.gid.specs.declared.Update.{Update}
 use Rattle.gid.specs.declared.Update.the-variants.{Step, Terminal, Close}
-use Rattle.gid.specs.Updates.{edge, source}
-use Rattle.gid.specs.Histories.{History, Has, IsClosed, Legal, following, listed}
-use Rattle.gid.specs.Statuses.{isNamed, isTerminal, isClosed}
+use Rattle.gid.specs.Updates.{edge}
+use Rattle.gid.specs.Histories.{History, Has, IsClosed, MayFollow, Legal, following, listed}
 use Rattle.gid.proofs.Decide.{Decides}
 use Rattle.gid.proofs.Tests.{decides-terminal, decides-closed, step-close, terminal-close}
 use Rattle.tables.specs.declared.Graph.{Graph}
 use Rattle.tables.specs.Tables.{Tables}
-use Rattle.tables.specs.Marks.{hasTerminal}
 use Rattle.tables.specs.Fitting.{marksOf, Consistent}
 use Rattle.tables.proofs.Bits.{marks-bits}
 use Rattle.tables.proofs.Listed.{lists-of, arcs-listed, step-in-list, list-has-step}
@@ -70,14 +68,14 @@ module _ (test : ℕ → Bool) (update : ℕ → Update) where
   order-closed : {h : History} (n : ℕ) {s : ℕ} → IsClosed (following h (inOrder n test update)) s → IsClosed h s ⊎ ((i : ℕ) × (i < n) × (Close s ≡ update i))
   order-closed {h} n m = ⊎-elim inl (λ q. let o = order-of n q in inr (o .0, o .1, o .3)) (followed h (inOrder n test update) m)
 
-  -- legal where none is sent from a state closed before, or by one of those before it
-  order-legal : {h : History} (n : ℕ) → Legal h → ((i : ℕ) → IsClosed h (source (update i)) → ⊥) → ((i j : ℕ) → j < i → Close (source (update i)) ≡ update j → ⊥) → Legal (following h (inOrder n test update))
+  -- legal where each may follow those before it
+  order-legal : (h : History) (n : ℕ) → Legal h → ((i : ℕ) → MayFollow (following h (inOrder i test update)) (update i)) → Legal (following h (inOrder n test update))
   unfolding inOrder
-  order-legal zero l p q = l
-  order-legal {h} (suc n) l p q = rw (following-append h (inOrder n test update) (cond (test n) (update n ∷ []) [])) (at (test n) (order-legal n l p q))
+  order-legal h zero l p = l
+  order-legal h (suc n) l p = rw (following-append h (inOrder n test update) (cond (test n) (update n ∷ []) [])) (at (test n) (order-legal h n l p))
     where
       at : (b : Bool) → Legal (following h (inOrder n test update)) → Legal (following (following h (inOrder n test update)) (cond b (update n ∷ []) []))
-      at true i = (i, λ m. ⊎-elim (p n) (λ o. q n (o .0) (o .1) (o .2)) (order-closed n m))
+      at true i = (i, p n)
       at false i = i
 
 -- The first m steps of two lists.
@@ -127,19 +125,18 @@ module _ (n m : ℕ) (marks from to : List ℕ) where
   written-listed =
       rw (parts-follow, listed-marks marks from to ForClose n stepped, listed-steps marks from to m terminals, listed-marks marks from to ForTerminal n [])
 
-  -- Terminal marks and steps come before every close, and a state is closed once.
+  -- Terminal marks and steps come before every close.
   pub written-legal : Legal (following [] (writtenUpdates n m marks from to))
   written-legal =
       rw parts-follow
-      (order-legal (isMarked ForClose marks) Close n
-      (order-legal (λ p. true) (stepAt from to) m
-      (order-legal (isMarked ForTerminal marks) Terminal n tt (λ i q. List·Memᴰ·not-nil q) (λ i j p q. terminal-close j i (sym q)))
-      (λ i q. unmarked q) (λ i j p q. step-close (edgeAt from to j) (getD from i 0) (sym q)))
-      (λ i q. ⊎-elim unmarked (λ o. step-close (edgeAt from to (o .0)) i (sym (o .2))) (order-closed (λ p. true) (stepAt from to) m q))
-      (λ i j p q. let z : i ≡ j = cc in omega arith))
+      (order-legal (isMarked ForClose marks) Close stepped n
+      (order-legal (λ p. true) (stepAt from to) terminals m
+      (order-legal (isMarked ForTerminal marks) Terminal [] n tt (λ i q. unmarked i q))
+      (λ i q. ⊎-elim (unmarked n) (λ o. step-close (edgeAt from to (o .0)) (getD from i 0) (sym (o .2))) (order-closed (λ p. true) (stepAt from to) i q)))
+      (λ i. tt))
     where
-      unmarked : {s : ℕ} → IsClosed terminals s → ⊥
-      unmarked {s} q = ⊎-elim List·Memᴰ·not-nil (λ o. terminal-close (o .0) s (sym (o .2))) (order-closed (isMarked ForTerminal marks) Terminal n q)
+      unmarked : (i : ℕ) {s : ℕ} → IsClosed (following [] (markedLines ForTerminal i marks)) s → ⊥
+      unmarked i {s} q = ⊎-elim List·Memᴰ·not-nil (λ o. terminal-close (o .0) s (sym (o .2))) (order-closed (isMarked ForTerminal marks) Terminal i q)
 
 decides-mark : (k : Mark) (h : History) (s : ℕ) → Decides (hasMark k (marksOf h s)) (Has h (marking k s))
 decides-mark ForTerminal h s = rw (marks-bits h s .1) (decides-terminal h s)

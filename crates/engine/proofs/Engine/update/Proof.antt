@@ -1,15 +1,17 @@
--- `Engine::update` keeps its promise: a refusal by either half of the tests, or an update that is listed, marked and judged.
+-- `Engine::update` keeps its promise: a refusal by either half of the tests, a close of a closed state, or an update that is listed, marked and judged.
 -- Assumes nothing.
 use mathlib.Core.Path.{_≡_, refl, sym, ap, _∙_}
+use mathlib.Core.Bool.{false}
 use native.Mathlib.Omega.{arith}
 use borrow.Author.Needs.{needs}
 use Rattle.tables.specs.declared.Graph.{Graph}
 use Rattle.tables.specs.Tables.{Tables, tablesOf, longEnough}
+use Rattle.tables.specs.Marks.{closesAgain}
 use Rattle.tables.specs.Refused.{isFull, lentNumber, sentNumber}
 use Rattle.engine.specs.Done.{Room}
 use Rattle.engine.specs.Promise.{Sendable}
 use Rattle.engine.proofs.Preparing.{sendable-range}
-use Rattle.engine.proofs.Promising.{room-of, sendable-of, listable, markable, walkable, lent-kept, sent-kept, done-of, done-kept}
+use Rattle.engine.proofs.Promising.{room-of, sendable-of, in-range, listable, markable, walkable, lent-kept, sent-kept, again-kept, done-of, done-kept}
 use Rattle.engine.proofs.Engine.update.Statement.{statement}
 use Rattle.engine.proofs.Engine.update.Tie as tie
 
@@ -23,8 +25,14 @@ at-passed c = c .before .before .before .before
 abbrev at-lent : tie.Else2 → tie.After-lent
 at-lent c = at-passed c .before
 
+abbrev at-again : tie.Else3 → tie.Else2
+at-again c = c .before .before .before
+
+abbrev at-once : tie.After-list → tie.Else3
+at-once c = c .before .before .before .before .before .before .before
+
 abbrev at-sent : tie.After-list → tie.Else2
-at-sent c = c .before .before .before .before .before .before .before
+at-sent c = at-again (at-once c)
 
 abbrev at-listed : tie.After-mark → tie.After-list
 at-listed c = c .before .before .before .before .before .before .before .before .before .before .before .before .before .before .before
@@ -72,6 +80,10 @@ sendable c =
     let l = at-lent c in
     sendable-of (graph l) (tables l .marks) (start l .args .update) (room (at-passed c) .steps) (sent c) .0
 
+-- Not a close of a closed state.
+once : (c : tie.Else3) → let l = at-lent (at-again c) in closesAgain (start l .args .update) (tables l .marks) ≡ false
+once c = sym (c .before .closes-again .ensures) ∙ c .if3 .left
+
 nodes-requires : tie.Need-nodes-requires
 nodes-requires c κs = search needs
 
@@ -101,8 +113,24 @@ returns-2 c =
     let l = e .before in
     sent-kept (graph l) (start l .args .update) (tables l) (passed e) (c .before .sent .result) (sent-is (c .before)) (c .if2 .taken)
 
+closes-again-requires : tie.Need-closes-again-requires
+closes-again-requires c κs =
+    let d = c .before in
+    let l = at-lent d in
+    let b = in-range (graph l .n) (graph l .limit) (graph l .steps) (start l .args .update) (sendable d) in
+    omega (arith, room (at-passed d) .long .marks)
+
+same-length-2 : tie.Need-same-length-2
+same-length-2 c = refl
+
+returns-3 : tie.Need-returns-3
+returns-3 c =
+    let d = c .before .before .before in
+    let l = at-lent d in
+    again-kept (graph l) (start l .args .update) (tables l) (passed (at-passed d)) (sent d) (sym (c .before .closes-again .ensures) ∙ c .if3 .taken)
+
 list-requires : tie.Need-list-requires
-list-requires c κs = let d = c .before .before .before .before .before .before in listable (room (at-passed d)) (start (at-lent d) .args .update) (sendable d)
+list-requires c κs = let d = at-again (c .before .before .before .before .before .before) in listable (room (at-passed d)) (start (at-lent d) .args .update) (sendable d)
 
 mark-requires : tie.Need-mark-requires
 mark-requires c κs = let d = at-sent (c .before .before .before .before .before .before .before .before .before .before .before .before .before .before) in markable (room (at-passed d)) (start (at-lent d) .args .update) (sendable d)
@@ -132,44 +160,44 @@ judge-requires c κs =
       ),
     )
 
-same-length-2 : tie.Need-same-length-2
-same-length-2 c = c .before .before .before .before .before .before .before .before .before .before .judge .kept .1 .1 .1 .0 ∙ at-mark (c .before .before .before .before .before .before .before .before .before .before) .mark .kept .1 .0
-
 same-length-3 : tie.Need-same-length-3
-same-length-3 c = at-mark (c .before .before .before .before .before .before .before .before .before .before) .mark .kept .1 .1 .0
+same-length-3 c = c .before .before .before .before .before .before .before .before .before .before .judge .kept .1 .1 .1 .0 ∙ at-mark (c .before .before .before .before .before .before .before .before .before .before) .mark .kept .1 .0
 
 same-length-4 : tie.Need-same-length-4
-same-length-4 c = at-list (c .before .before .before .before .before .before .before .before .before .before) .list .kept .1 .1 .0
+same-length-4 c = at-mark (c .before .before .before .before .before .before .before .before .before .before) .mark .kept .1 .1 .0
 
 same-length-5 : tie.Need-same-length-5
-same-length-5 c = at-list (c .before .before .before .before .before .before .before .before .before .before) .list .kept .1 .1 .1 .0
+same-length-5 c = at-list (c .before .before .before .before .before .before .before .before .before .before) .list .kept .1 .1 .0
 
 same-length-6 : tie.Need-same-length-6
-same-length-6 c = c .before .before .before .before .before .before .before .before .before .before .judge .kept .1 .1 .1 .1 .1 .1 .0
+same-length-6 c = at-list (c .before .before .before .before .before .before .before .before .before .before) .list .kept .1 .1 .1 .0
 
 same-length-7 : tie.Need-same-length-7
-same-length-7 c = c .before .before .before .before .before .before .before .before .before .before .judge .kept .1 .1 .1 .1 .1 .1 .1 .0
+same-length-7 c = c .before .before .before .before .before .before .before .before .before .before .judge .kept .1 .1 .1 .1 .1 .1 .0
 
 same-length-8 : tie.Need-same-length-8
-same-length-8 c = at-list (c .before .before .before .before .before .before .before .before .before .before) .list .kept .1 .1 .1 .1 .0
+same-length-8 c = c .before .before .before .before .before .before .before .before .before .before .judge .kept .1 .1 .1 .1 .1 .1 .1 .0
 
 same-length-9 : tie.Need-same-length-9
-same-length-9 c = at-list (c .before .before .before .before .before .before .before .before .before .before) .list .kept .1 .1 .1 .1 .1 .0
+same-length-9 c = at-list (c .before .before .before .before .before .before .before .before .before .before) .list .kept .1 .1 .1 .1 .0
 
 same-length-10 : tie.Need-same-length-10
-same-length-10 c = c .before .before .before .before .before .before .before .before .before .before .judge .kept .1 .1 .1 .1 .1 .1 .1 .1 .1 .1 .0
+same-length-10 c = at-list (c .before .before .before .before .before .before .before .before .before .before) .list .kept .1 .1 .1 .1 .1 .0
 
 same-length-11 : tie.Need-same-length-11
-same-length-11 c = c .before .before .before .before .before .before .before .before .before .before .judge .kept .1 .1 .1 .1 .1 .1 .1 .1 .1 .1 .1 .0
+same-length-11 c = c .before .before .before .before .before .before .before .before .before .before .judge .kept .1 .1 .1 .1 .1 .1 .1 .1 .1 .1 .0
 
 same-length-12 : tie.Need-same-length-12
-same-length-12 c = at-list (c .before .before .before .before .before .before .before .before .before .before) .list .kept .1 .1 .1 .1 .1 .1 .0
+same-length-12 c = c .before .before .before .before .before .before .before .before .before .before .judge .kept .1 .1 .1 .1 .1 .1 .1 .1 .1 .1 .1 .0
 
 same-length-13 : tie.Need-same-length-13
-same-length-13 c = at-list (c .before .before .before .before .before .before .before .before .before .before) .list .kept .1 .1 .1 .1 .1 .1 .1 .0
+same-length-13 c = at-list (c .before .before .before .before .before .before .before .before .before .before) .list .kept .1 .1 .1 .1 .1 .1 .0
 
-returns-3 : tie.Need-returns-3
-returns-3 c =
+same-length-14 : tie.Need-same-length-14
+same-length-14 c = at-list (c .before .before .before .before .before .before .before .before .before .before) .list .kept .1 .1 .1 .1 .1 .1 .1 .0
+
+returns-4 : tie.Need-returns-4
+returns-4 c =
     let j = c .before .before .before .before .before .before .before .before .before .before in
     let f = at-after j in
     let k = at-marked f in
@@ -178,7 +206,7 @@ returns-3 c =
     let l = at-lent d in
     let a = start l .args in
     rw (f .after .ensures)
-    (done-kept (graph l) (a .update) (tables l) (passed (at-passed d)) (sent d)
+    (done-kept (graph l) (a .update) (tables l) (passed (at-passed d)) (sent d) (once (at-once i))
     (done-of (tables l) _ (a .update) (k .mark .ensures .1) (i .list .ensures) (ap (λ (e : Graph). e .steps) (f .after .ensures)) (k .mark .ensures .0) (j .judge .ensures)))
 
 pub update-spec : {M : Type 1} → statement M
@@ -193,11 +221,13 @@ update-spec =
     sent-requires
     same-length
     returns-2
+    closes-again-requires
+    same-length-2
+    returns-3
     list-requires
     mark-requires
     after-requires
     judge-requires
-    same-length-2
     same-length-3
     same-length-4
     same-length-5
@@ -209,4 +239,5 @@ update-spec =
     same-length-11
     same-length-12
     same-length-13
-    returns-3)
+    same-length-14
+    returns-4)

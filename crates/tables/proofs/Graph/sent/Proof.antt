@@ -1,11 +1,6 @@
 use borrow.Author.Needs.{needs}
 use Rattle.tables.proofs.Graph.sent.Statement.{statement}
 use Rattle.tables.proofs.Graph.sent.Tie as tie
-use Rattle.tables.proofs.Graph.sent.Reads as reads
-use Rattle.tables.proofs.Graph.sent.Lts as lts
-use Rattle.tables.proofs.Graph.sent_close.Reads as sent-close-reads
-use Rattle.tables.proofs.Graph.sent_step.Reads as sent-step-reads
-use Rattle.tables.proofs.Graph.sent_terminal.Reads as sent-terminal-reads
 
 enum-known-update : tie.Need-enum-known-update
 enum-known-update c = search needs
@@ -32,7 +27,7 @@ returns-2 : tie.Need-returns-2
 returns-2 c = rw (c .before .before .update2 .given .1) (c .sent-terminal .ensures _)
 
 returns-3 : tie.Need-returns-3
-returns-3 c = rw (c .before .before .update3 .given .1) (c .sent-close .ensures _)
+returns-3 c = rw (c .before .before .update3 .given .1) (c .sent-close .ensures _ _)
 
 pub sent-spec : {M : Type 1} → statement M
 sent-spec =
