@@ -78,7 +78,8 @@ static uint8_t mark_bits(Update u, size_t s)
     return bits;
 }
 
-// What holds of an accepted update, but for a close of a closed state, whatever the tables held: marks, step list and state value, the news' form, and what is kept.
+// What holds of an accepted update, but for a close of a closed state, whatever the tables held: marks, step list and state value, the
+// news' form, and what is kept.
 static void check_accepted(Lent *l, Update u, size_t news)
 {
     static const Name searched[] = {STATUS, SUCCESSOR, IN_HEAD, OUT_HEAD, QUEUE, VISITED, IN_NEXT, OUT_NEXT};

@@ -104,7 +104,8 @@ void random_history(History *h, size_t n, size_t limit, size_t updates, int lega
         size_t kind = below(steps + terminals + closes);
         Update u = {kind < steps ? 'E' : kind < steps + terminals ? 'T' : 'C', below(n), 0};
         if (u.kind == 'T' && !one_in(1 + n / 8)) u.kind = 'E';
-        if (i + 2 >= updates && updates > 1) u = (Update){'C', i + 1 == updates ? h->accepted[h->count - 1].first : u.first, 0};
+        if (updates > 1 && i + 2 == updates) u.kind = 'C';
+        if (updates > 1 && i + 1 == updates) u = h->accepted[h->count - 1];    // the close before it, again
         if (legal && ((closed[u.first] && u.kind != 'C') || (u.kind == 'E' && h->steps == limit))) continue;
         if (u.kind == 'E') u.second = target(n, u.first, near);
         closed[u.first] |= u.kind == 'C';

@@ -45,7 +45,7 @@ size_t target(size_t n, size_t source, size_t near);
 // none is refused.
 void random_history(History *h, size_t n, size_t limit, size_t updates, int legal);
 
-// Each run ends with a close that comes again.
+// Each of the runs below ends with a close that comes again.
 
 // Updates in random proportions; closes at random, by rising or by falling state; now and then a state out of range.
 void mixed_run(Run *r, size_t n, size_t limit, size_t updates);

@@ -24,7 +24,7 @@ use Rattle.tables.specs.Tables.{Tables}
 use Rattle.tables.specs.Marks.{hasNamed, hasTerminal, hasClosed}
 use Rattle.tables.specs.Work.{ListRule}
 use Rattle.tables.specs.Fitting.{StepAt, marksOf, Consistent}
-use Rattle.tables.proofs.Bits.{bits, byte, marks-bits, closed-bit}
+use Rattle.tables.proofs.Bits.{bits, byte, marks-bits, decides-closed-mark}
 use Rattle.tables.proofs.Listed.{lists-of, step-in-list, list-has-step}
 use Rattle.adjacency.proofs.Walks.{linked, meets-none, clamp-keeps}
 use Rattle.search.specs.declared.spread.Mode.the-variants.{Tree, Claimed}
@@ -73,7 +73,7 @@ module _ {h : History} {g : Graph} {t : Tables} (c : Consistent h g t) where
   terminal-mark s k q = rw (c .marks s k) (marks-bits h s .1 ∙ decides-terminal h s .complete q)
 
   closed-mark : (s : ℕ) → s < g .n → IsClosed h s → hasClosed (getD (t .marks) s 0) ≡ true
-  closed-mark s k q = rw (c .marks s k) (closed-bit h s ∙ decides-closed h s .complete q)
+  closed-mark s k q = decides-closed-mark c s k .complete q
 
   mark-named : (s : ℕ) → s < g .n → hasNamed (getD (t .marks) s 0) ≡ true → IsNamed h s
   mark-named s k e = decides-named h s .sound (sym (marks-bits h s .0) ∙ rw (c .marks s k) at e)

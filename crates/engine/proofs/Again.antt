@@ -12,7 +12,6 @@ use Rattle.gid.specs.declared.Update.{Update}
 use Rattle.gid.specs.declared.Update.the-variants.{Step, Terminal, Close}
 use Rattle.gid.specs.Updates.{source}
 use Rattle.gid.specs.Histories.{History, IsClosed, listed}
-use Rattle.gid.proofs.Tests.{decides-closed}
 use Rattle.gid.proofs.Repeats.{repeated-names, repeated-named, repeated-terminal, repeated-closed, repeated-status, repeated-news}
 use Rattle.tables.specs.declared.Graph.{Graph}
 use Rattle.tables.specs.Tables.{Tables, nodesOf, longEnough}
@@ -20,7 +19,7 @@ use Rattle.tables.specs.Marks.{hasClosed, closesAgain}
 use Rattle.tables.specs.Listing.{graphAfter}
 use Rattle.tables.specs.Refused.{lentNumber, sentNumber}
 use Rattle.tables.specs.Fitting.{marksOf, Consistent}
-use Rattle.tables.proofs.Bits.{closed-bit}
+use Rattle.tables.proofs.Bits.{decides-closed-mark}
 use Rattle.tables.proofs.Keeping.{kept-none, tables-same}
 use Rattle.tables.proofs.Refusing.{accepted}
 use Rattle.engine.specs.declared.Answer.{Answer}
@@ -73,7 +72,7 @@ again-accepted g (Close u) t r i =
     same-graph = let z : g .steps + 0 ≡ g .steps = omega arith in rw z
 
     closed : (h : History) → Consistent h g t → IsClosed h u
-    closed h c = decides-closed h u .sound (sym (closed-bit h u) ∙ ap hasClosed (sym (c .marks u i)) ∙ r)
+    closed h c = decides-closed-mark c u i .sound r
 
 -- "A close of a closed state is now legal and accepted, with no news and no change": of every engine that keeps the promise, on tables with any contents, wherever the tests 1 to 5 find nothing.
 pub close-again :

@@ -25,7 +25,7 @@ use Rattle.engine.specs.declared.Answer.the-variants.{Accepted}
 use Rattle.engine.specs.Answers.{answerNumber, newsOf}
 use Rattle.engine.specs.Promise.{AcceptedUpdate, Promise, Sendable}
 use Rattle.engine.specs.Runs.{Run, Agree}
-use Rattle.engine.proofs.Running.{was-accepted, Sound, sound, sound-checked, not-refused, follows}
+use Rattle.engine.proofs.Running.{was-accepted, Sound, sound, sound-checked, not-refused, may-follow}
 use Rattle.engine.proofs.Twins.{agree}
 
 -- Demand 1. "In any call of a run from fresh tables (first or later, with the state value that the run has there), n and the step limit being in bounds, an update with its states in range and its first state not closed is accepted, if the tables are long enough and, for a step, the step list has a free place", a close also where its state is closed (document 02, #102). "On any tables, every update to which a number of document 01 applies gets the first such number, an empty news list, and all tables as before."
@@ -64,7 +64,7 @@ demand-2 {g₀ = g₀} {g = g} {g′ = g′} {t₀ = t₀} {t₁ = t₁} {t′ =
     fits = a .1 .fits h (s₁ .legal) (s₁ .fits)
 
     legal : Legal (x ∷ h)
-    legal = (s₁ .legal, follows s₁ x (a .0))
+    legal = (s₁ .legal, may-follow s₁ x (a .0))
 
     statuses : (s : ℕ) → s < g .n → getD (t′ .status) s 0 ≡ status (x ∷ h) s
     statuses s q = fits .0 .status s (rw (a .1 .graph) q)

@@ -1,6 +1,6 @@
 -- The engine's promise, from what the tests answer and from what an accepted update does.
 -- Assumes nothing.
-use mathlib.Core.Path.{_≡_, refl, sym, _∙_, ap}
+use mathlib.Core.Path.{_≡_, refl, sym, _∙_}
 use mathlib.Core.Bool.{true, false, false≢true}
 use mathlib.Core.List.{List}
 use mathlib.Core.Option.{some}
@@ -15,14 +15,13 @@ use Rattle.gid.specs.Updates.{source}
 use Rattle.gid.specs.Histories.{History, IsClosed, added}
 use Rattle.gid.specs.Refusals.{sent}
 use Rattle.gid.proofs.Decide.{refuted}
-use Rattle.gid.proofs.Tests.{decides-closed}
 use Rattle.tables.specs.declared.Graph.{Graph}
 use Rattle.tables.specs.Tables.{Tables, nodesOf, longEnough}
 use Rattle.tables.specs.Marks.{hasClosed, closesAgain}
 use Rattle.tables.specs.Listing.{graphAfter}
 use Rattle.tables.specs.Refused.{isFull, given, refusalOn, lentNumber, sentNumber}
 use Rattle.tables.specs.Fitting.{Consistent}
-use Rattle.tables.proofs.Bits.{closed-bit}
+use Rattle.tables.proofs.Bits.{decides-closed-mark}
 use Rattle.tables.proofs.Sizes.{long-enough}
 use Rattle.tables.proofs.Refusing.{passed, neither, lent-leaves, refused-lent, refused-sent, accepted, sent-passes}
 use Rattle.engine.specs.declared.Answer.the-variants.{Accepted, Refused}
@@ -137,7 +136,7 @@ module _ (g : Graph) (x : Update) (t : Tables) where
 
       module _ (once : closesAgain x (t .marks) ≡ false) {t′ : Tables} {k : ℕ} (done : Done (g .n) (g .steps) t t′ k x) where
         unclosed : {h : History} → Consistent h g t → IsClosed h (source x) → ⊥
-        unclosed {h} c = refuted (decides-closed h (source x)) (sym (closed-bit h (source x)) ∙ ap hasClosed (sym (c .marks (source x) (in-range (g .n) (g .limit) (g .steps) x (sendable .0)))) ∙ sendable .1 once)
+        unclosed c = refuted (decides-closed-mark c (source x) (in-range (g .n) (g .limit) (g .steps) x (sendable .0))) (sendable .1 once)
 
         -- an accepted update that is done keeps the promise
         pub done-kept : Promise g x t (graphAfter g x) (Accepted k) t′

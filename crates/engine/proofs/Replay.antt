@@ -4,7 +4,7 @@ use mathlib.Core.Path.{_≡_, refl, _∙_, ap}
 use mathlib.Core.Bool.{Bool, true, false, cond, _||_}
 use mathlib.Core.List.{List, [], _∷_, _++_}
 use mathlib.Core.Option.{Option, some, none}
-use Prim.Native.Nat.{ℕ, _<_}
+use Prim.Native.Nat.{ℕ}
 use lib.Dec.{leb, eqb}
 use lib.ListN.{length, getD}
 use borrow.Author.Tests.{leb-false}
@@ -20,7 +20,7 @@ use Rattle.tables.specs.Tables.{Tables, longEnough}
 use Rattle.tables.specs.Marks.{hasClosed}
 use Rattle.tables.specs.Refused.{isFull, refusalOn, given}
 use Rattle.tables.specs.Fitting.{Consistent}
-use Rattle.tables.proofs.Bits.{closed-bit}
+use Rattle.tables.proofs.Bits.{closed-same}
 use Rattle.tables.proofs.Refusing.{neither}
 use Rattle.engine.specs.declared.Answer.{Answer}
 use Rattle.engine.specs.Answers.{answerNumber, newsOf, answerOutcome}
@@ -37,19 +37,16 @@ guarded true r′ e l l′ q = rw (← e)
 guarded false r′ e l l′ q = rw (← e) (q refl)
 
 module _ {h : History} {g : Graph} {t : Tables} (c : Consistent h g t) where
-  closed-same : (u : ℕ) → u < g .n → hasClosed (getD (t .marks) u 0) ≡ isClosed h u
-  closed-same u r = ap hasClosed (c .marks u r) ∙ closed-bit h u
-
   sent-same : (long : Bool) (x : Update) → first (sent (given g long (isFull g) (t .marks)) x) ≡ first (sent (givenAfter (g .n) (g .limit) h) x)
   unfolding givenAfter
   sent-same long (Step d) =
       guarded (leb (g .n) (d .from) || leb (g .n) (d .to)) (leb (g .n) (d .from) || leb (g .n) (d .to)) refl
       (rule (hasClosed (getD (t .marks) (d .from) 0)) 6 ∷ rule (isFull g) 9 ∷ [])
       (rule (isClosed h (d .from)) 6 ∷ rule (eqb (length (listed h)) (g .limit)) 9 ∷ [])
-      (λ e. let r = leb-false (g .n) (d .from) (neither (leb (g .n) (d .from)) (leb (g .n) (d .to)) e .0) in rw (closed-same (d .from) r, c .steps))
+      (λ e. let r = leb-false (g .n) (d .from) (neither (leb (g .n) (d .from)) (leb (g .n) (d .to)) e .0) in rw (closed-same c (d .from) r, c .steps))
   sent-same long (Terminal u) =
       guarded (leb (g .n) u) (leb (g .n) u) refl (rule (hasClosed (getD (t .marks) u 0)) 6 ∷ []) (rule (isClosed h u) 6 ∷ [])
-      (λ e. rw (closed-same u (leb-false (g .n) u e)))
+      (λ e. rw (closed-same c u (leb-false (g .n) u e)))
   sent-same long (Close u) = refl
 
   -- The number on the tables is the one by the history.

@@ -12,17 +12,15 @@ use Rattle.gid.specs.declared.Update.{Update}
 use Rattle.gid.specs.declared.Update.the-variants.{Step, Terminal, Close}
 use Rattle.gid.specs.Updates.{source}
 use Rattle.gid.specs.Histories.{History, MayFollow, Legal, IsClosed}
-use Rattle.gid.specs.Statuses.{isClosed}
 use Rattle.gid.specs.Refusals.{lent, sent, refusal, maxStates, maxSteps}
 use Rattle.gid.proofs.Decide.{refutes, refuted}
-use Rattle.gid.proofs.Tests.{decides-closed}
 use Rattle.tables.specs.declared.Graph.{Graph}
 use Rattle.tables.specs.Tables.{Tables, lengths, longEnough}
 use Rattle.tables.specs.Marks.{hasClosed, closesAgain}
 use Rattle.tables.specs.Listing.{graphAfter}
 use Rattle.tables.specs.Refused.{isFull, given, refusalOn}
 use Rattle.tables.specs.Fitting.{Checked, Consistent, Fresh}
-use Rattle.tables.proofs.Bits.{closed-bit}
+use Rattle.tables.proofs.Bits.{decides-closed-mark}
 use Rattle.tables.proofs.Keeping.{lengths-kept}
 use Rattle.tables.proofs.Refusing.{NoneApply, none-applies, first-none, accepted-passes}
 use Rattle.tables.proofs.Starting.{fresh-consistent}
@@ -56,7 +54,7 @@ pub record Sound (g₀ : Graph) (t₀ : Tables) (h : History) (g : Graph) (t : T
 
 -- an update sent from a state that is not closed does not meet 6
 pub unmarked : {h : History} {g : Graph} {t : Tables} → Consistent h g t → (u : ℕ) → u < g .n → (IsClosed h u → ⊥) → hasClosed (getD (t .marks) u 0) ≡ false
-unmarked {h} c u r o = rw (c .marks u r) (closed-bit h u ∙ refutes (isClosed h u) (decides-closed h u) o)
+unmarked {t = t} c u r o = refutes (hasClosed (getD (t .marks) u 0)) (decides-closed-mark c u r) o
 
 module _ {g₀ : Graph} {t₀ : Tables} where
   -- a check in between keeps it
@@ -65,14 +63,14 @@ module _ {g₀ : Graph} {t₀ : Tables} where
       record { legal = s .legal; fits = c .fits h (s .legal) (s .fits); states = s .states; limit = s .limit; sizes = c .sizes ∙ s .sizes; room = s .room }
 
   -- what is accepted may follow what was
-  pub follows : {h : History} {g : Graph} {t : Tables} → Sound g₀ t₀ h g t → (x : Update) → refusalOn g t x ≡ none → MayFollow h x
-  follows {h} {g} {t} s x e =
+  pub may-follow : {h : History} {g : Graph} {t : Tables} → Sound g₀ t₀ h g t → (x : Update) → refusalOn g t x ≡ none → MayFollow h x
+  may-follow {h} {g} {t} s x e =
       let p = accepted-passes g t x e in
       let q = sendable-of g (t .marks) x (s .room) (p .1) in
       at x (in-range (g .n) (g .limit) (g .steps) x (q .0)) (q .1)
     where
       unclosed : (u : ℕ) → u < g .n → hasClosed (getD (t .marks) u 0) ≡ false → IsClosed h u → ⊥
-      unclosed u r q = refuted (decides-closed h u) (sym (closed-bit h u) ∙ ap hasClosed (sym (s .fits .marks u r)) ∙ q)
+      unclosed u r q = refuted (decides-closed-mark (s .fits) u r) q
 
       at : (y : Update) → source y < g .n → (closesAgain y (t .marks) ≡ false → hasClosed (getD (t .marks) (source y) 0) ≡ false) → MayFollow h y
       at (Step d) r q = unclosed (d .from) r (q refl)
@@ -84,7 +82,7 @@ module _ {g₀ : Graph} {t₀ : Tables} where
       let q = accepted-passes g t x e in
       let d = sendable-of g (t .marks) x (s .room) (q .1) in
       record {
-        legal = (s .legal, follows s x e);
+        legal = (s .legal, may-follow s x e);
         fits = a .fits h (s .legal) (s .fits) .0;
         states = ap (λ (e : Graph). e .n) (a .graph) ∙ s .states;
         limit = ap (λ (e : Graph). e .limit) (a .graph) ∙ s .limit;

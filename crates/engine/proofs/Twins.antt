@@ -26,7 +26,7 @@ use Rattle.engine.specs.Answers.{newsOf}
 use Rattle.engine.specs.Promise.{Promise, Sendable}
 use Rattle.engine.specs.Runs.{Run, begun, accepted, refused, Agree}
 use Rattle.engine.proofs.Promising.{sendable-of}
-use Rattle.engine.proofs.Running.{was-accepted, was-refused, Sound, sound, sound-checked, follows, not-refused}
+use Rattle.engine.proofs.Running.{was-accepted, was-refused, Sound, sound, sound-checked, may-follow, not-refused}
 
 both : {o : Option ℕ} {k : ℕ} → o ≡ none → o ≡ some k → ⊥
 both e d = let b : _≡_ {A = ℕ} 0 1 = cc in omega arith
@@ -60,7 +60,7 @@ module _ {g₀ g₁ : Graph} {t₀ t₁ : Tables} (fresh₀ : Fresh g₀ t₀) (
       let w : g′ .steps ≤ g .steps = rw (s′ .fits .steps, s .fits .steps) (fewer c) in
       not-refused s′ (rw n (l .some-states)) (rw n (l .few-states)) (rw m (l .some-limit)) (rw m (l .low-limit)) (rw (n, m) (subst (λ (y : Lengths). enough (needs (g .n) (g .n) (g .limit) y) ≡ true) (sym z) (l .longs))) x
       (rw (n, m) (sendable-fewer (g .n) (g .limit) w x (d .0)))
-      (follows-within (keeps c .part) x (follows s x e))
+      (follows-within (keeps c .part) x (may-follow s x e))
 
   -- one accepted update has the news of the definition, and the statuses after it
   module _ {g₂ : Graph} {t₂ : Tables} {h : History} {g g′ : Graph} {t t′ : Tables} {x : Update} {k : ℕ} (s : Sound g₂ t₂ h g t) (o : Promise g x t g′ (Accepted k) t′) where
@@ -80,7 +80,7 @@ module _ {g₀ g₁ : Graph} {t₀ t₁ : Tables} (fresh₀ : Fresh g₀ t₀) (
   kept-agree : {f p : History} {g g₂ g′ g₂′ : Graph} {t t₂ t′ t₂′ : Tables} {x : Update} {k j : ℕ} (c : Pruned f p) (s : Sound g₀ t₀ f g t) (s′ : Sound g₁ t₁ p g₂ t₂) → Promise g x t g′ (Accepted k) t′ → Promise g₂ x t₂ g₂′ (Accepted j) t₂′ → (newsOf (Accepted k) (t′ .news) ≡ newsOf (Accepted j) (t₂′ .news)) × ((r : ℕ) → IsNamed (x ∷ p) r → getD (t′ .status) r 0 ≡ getD (t₂′ .status) r 0)
   kept-agree {f} {p} {g} {g₂} {g′} {g₂′} {t} {t₂} {t′} {t₂′} {x} c s s′ o o′ =
       let n : g₂ .n ≡ g .n = s′ .states ∙ states ∙ sym (s .states) in
-      let a = pruning (g .n) (keep x c) (s .legal, follows s x (was-accepted o .0)) .1 in (
+      let a = pruning (g .n) (keep x c) (s .legal, may-follow s x (was-accepted o .0)) .1 in (
         news-of s o ∙ a .1 ∙ sym (rw n at (news-of s′ o′)),
         λ r q.
             let b = range-of s′ o′ r q in
@@ -104,5 +104,5 @@ module _ {g₀ g₁ : Graph} {t₀ t₁ : Tables} (fresh₀ : Fresh g₀ t₀) (
   agree (accepted full s x k o) (leave y l c) thin =
       let i = agree full c thin in
       let s₁ = sound-checked (sound fresh₀ full) s in
-      let a = pruning _ (leave y l c) (s₁ .legal, follows s₁ y (was-accepted o .0)) .1 in
+      let a = pruning _ (leave y l c) (s₁ .legal, may-follow s₁ y (was-accepted o .0)) .1 in
       (i .0, (i .1, news-of s₁ o ∙ a .1))

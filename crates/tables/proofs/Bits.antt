@@ -1,16 +1,21 @@
 -- The marks of a state. On any byte: setting one sets it, leaves the other two as they were, and clears none. On the byte of three marks: what is read and what setting one gives.
 -- Assumes nothing.
-use mathlib.Core.Path.{_≡_}
+use mathlib.Core.Path.{_≡_, _∙_, ap}
 use mathlib.Core.Bool.{Bool, true, false, cond}
-use Prim.Native.Nat.{ℕ, _+_, _*_, _-_, _/_, _%_, _≤_}
+use Prim.Native.Nat.{ℕ, _+_, _*_, _-_, _/_, _%_, _≤_, _<_}
 use native.Mathlib.Omega.{arith}
 use native.Mathlib.Nat.{mul-one, mul-zero}
 use native.Mathlib.Decide.{ℕ-discrete}
 use lib.Dec.{eqb}
-use Rattle.gid.specs.Histories.{History}
+use lib.ListN.{getD}
+use Rattle.gid.specs.Histories.{History, IsClosed}
 use Rattle.gid.specs.Statuses.{isNamed, isTerminal, isClosed}
+use Rattle.gid.proofs.Decide.{Decides}
+use Rattle.gid.proofs.Tests.{decides-closed}
+use Rattle.tables.specs.declared.Graph.{Graph}
+use Rattle.tables.specs.Tables.{Tables}
 use Rattle.tables.specs.Marks.{hasNamed, hasTerminal, hasClosed, withNamed, withTerminal, withClosed}
-use Rattle.tables.specs.Fitting.{marksOf}
+use Rattle.tables.specs.Fitting.{marksOf, Consistent}
 
 quarter : (x : ℕ) → x / 4 ≡ x / 2 / 2
 quarter x = omega arith
@@ -83,3 +88,11 @@ marks-bits h s = let r = byte (isNamed h s) (isTerminal h s) (isClosed h s) in (
 
 pub closed-bit : (h : History) (s : ℕ) → hasClosed (marksOf h s) ≡ isClosed h s
 closed-bit h s = marks-bits h s .2
+
+-- On tables that fit for a history, a state's closed mark says whether the history has closed it: as tests, and as a statement.
+module _ {h : History} {g : Graph} {t : Tables} (c : Consistent h g t) (s : ℕ) (range : s < g .n) where
+  pub closed-same : hasClosed (getD (t .marks) s 0) ≡ isClosed h s
+  closed-same = ap hasClosed (c .marks s range) ∙ closed-bit h s
+
+  pub decides-closed-mark : Decides (hasClosed (getD (t .marks) s 0)) (IsClosed h s)
+  decides-closed-mark = rw closed-same (decides-closed h s)
