@@ -29,8 +29,9 @@ pub record Keeps (f p : History) : Type 0 where
   pub kept : (x : Update) → Has f x → (Live f (source x) → ⊥) → Has p x
   pub live : (s : ℕ) → Live f s → Live p s
 
-keeps-start : Keeps [] []
-keeps-start = record { part = λ x m. m; kept = λ x m n. m; live = λ s l. l }
+-- A history keeps itself, as one of which nothing was left out.
+pub keeps-itself : (h : History) → Keeps h h
+keeps-itself h = record { part = λ x m. m; kept = λ x m n. m; live = λ s l. l }
 
 -- what is live in f carries over to g, where g has what x ∷ f has from states that were not live
 carried : {f g : History} (x : Update) → ((s : ℕ) → Live f s → Live g s) → ((y : Update) → (Live f (source y) → ⊥) → Has (x ∷ f) y → Has g y) → {s : ℕ} → Live (x ∷ f) s → Live g s
@@ -68,7 +69,7 @@ keeps-keep {f} {p} x k =
     }
 
 pub keeps : {f p : History} → Pruned f p → Keeps f p
-keeps start = keeps-start
+keeps start = keeps-itself []
 keeps (keep x c) = keeps-keep x (keeps c)
 keeps (leave x l c) = keeps-leave x l (keeps c)
 

@@ -13,17 +13,13 @@ use Rattle.gid.proofs.Decide.{same-test}
 use Rattle.gid.proofs.Paths.{Inside, within-newer}
 use Rattle.gid.proofs.Tests.{decides-named, decides-terminal, decides-closed}
 use Rattle.gid.proofs.Deadness.{live-within}
-use Rattle.gid.proofs.Pruning.{Keeps, same-live, same-dead, no-news}
-
--- A history keeps itself, as one of which nothing was left out,
-keeps-itself : (h : History) → Keeps h h
-keeps-itself h = record { part = λ y m. m; kept = λ y m n. m; live = λ s l. l }
+use Rattle.gid.proofs.Pruning.{Keeps, keeps-itself, same-live, same-dead, no-news}
 
 module _ {h : History} {x : Update} (has : Has h x) where
   within-older : Inside (x ∷ h) h
   within-older y m = ⊎-elim (λ e. subst (λ (z : Update). Has h z) (sym e) has) (λ q. q) (List·Memᴰ·cases-cons m)
 
-  -- and also as one of which the repeat was.
+  -- The history is one with the repeat, of which that was left out.
   keeps-repeated : Keeps (x ∷ h) h
   keeps-repeated = record { part = within-newer x; kept = λ y m n. within-older y m; live = λ s l. live-within within-older l }
 
