@@ -15,7 +15,7 @@ enum { NEAR = 16 };
 
 typedef struct {
     size_t n, limit, steps;
-    uint8_t *status, *marks;
+    uint8_t *status, *marks, *key;
     uint16_t *from, *to, *successor, *news;
     uint16_t *in_head, *out_head, *queue, *visited, *in_next, *out_next;
 } Engine;
@@ -36,9 +36,10 @@ static int refused_source(const Engine *e, size_t u)
     return e->marks[u] & CLOSED ? 6 : 0;
 }
 
-static int refused_step(const Engine *e, size_t u, size_t v)
+static int refused_step(const Engine *e, size_t u, size_t v, size_t key)
 {
     if (u >= e->n || v >= e->n) return 5;
+    if (key > MAX_KEY) return 14;
     int number = refused_source(e, u);
     if (number) return number;
     return e->steps == e->limit ? 9 : 0;
@@ -215,11 +216,12 @@ static size_t find_dead(const Engine *e, size_t u)
     return settle(e, span, DEAD);
 }
 
-static size_t step(Engine *e, size_t u, size_t v)
+static size_t step(Engine *e, size_t u, size_t v, size_t key)
 {
     size_t p = e->steps++;
     e->from[p] = (uint16_t)u;
     e->to[p] = (uint16_t)v;
+    e->key[p] = (uint8_t)key;
     push(e->out_head, e->out_next, u, p);
     push(e->in_head, e->in_next, v, p);
     name(e, u);
@@ -247,11 +249,11 @@ static size_t close_state(const Engine *e, size_t u)
     return 0;
 }
 
-static uint32_t send(Engine *e, uint8_t kind, size_t first, size_t second)
+static uint32_t send(Engine *e, uint8_t kind, size_t first, size_t second, size_t key)
 {
-    int number = kind == 'E' ? refused_step(e, first, second) : kind == 'T' ? refused_terminal(e, first) : refused_close(e, first);
+    int number = kind == 'E' ? refused_step(e, first, second, key) : kind == 'T' ? refused_terminal(e, first) : refused_close(e, first);
     if (number) return REFUSED + (uint32_t)number;
-    return (uint32_t)(kind == 'E' ? step(e, first, second) : kind == 'T' ? terminal(e, first) : close_state(e, first));
+    return (uint32_t)(kind == 'E' ? step(e, first, second, key) : kind == 'T' ? terminal(e, first) : close_state(e, first));
 }
 
 // Flattened into one function, in which the tables stay in registers: faster than with calls.
@@ -261,11 +263,11 @@ __attribute__((flatten)) uint32_t baseline_update(PARAMETERS)
     if (limit == 0 || limit > MAX_STEPS) return REFUSED + 2;
     if (status_len < n || marks_len < n || successor_len < n || news_len < n) return REFUSED + 3;
     if (in_head_len < n || out_head_len < n || queue_len < n || visited_len < n) return REFUSED + 3;
-    if (from_len < limit || to_len < limit || in_next_len < limit || out_next_len < limit) return REFUSED + 3;
+    if (from_len < limit || to_len < limit || key_len < limit || in_next_len < limit || out_next_len < limit) return REFUSED + 3;
     if (*steps > limit) return REFUSED + 4;
     if (kind != 'E' && kind != 'T' && kind != 'C') return REFUSED + 11;
-    Engine e = {n, limit, *steps, status, marks, from, to, successor, news, in_head, out_head, queue, visited, in_next, out_next};
-    uint32_t answer = send(&e, kind, first, second);
+    Engine e = {n, limit, *steps, status, marks, key, from, to, successor, news, in_head, out_head, queue, visited, in_next, out_next};
+    uint32_t answer = send(&e, kind, first, second, by_key);
     *steps = e.steps;
     return answer;
 }

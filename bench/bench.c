@@ -131,7 +131,7 @@ static const Class growing[] = {
 
 enum { CLASSES = sizeof classes / sizeof *classes, GROWING = sizeof growing / sizeof *growing, SEEDS = 3 };
 
-// ---- update lists: the states in order, each with its steps and then its close
+// ---- update lists: the states in order, each with its steps, by each key in turn, and then its close
 
 enum { FORWARDS, BACKWARDS, ORDERS };
 enum { ENDED_DEAD, ENDED_UNKNOWN, WITH_TERMINALS, ENDINGS };
@@ -140,14 +140,17 @@ static const char *const orders[] = {"forwards", "backwards"};
 static const char *const endings[] = {"ended dead", "ended unknown", "with terminals"};
 
 typedef struct {
-    uint8_t kind;
+    uint8_t kind, key;
     uint16_t first, second;
 } Sent;
 
 static Sent list[MOST_UPDATES];
 static size_t count;
 
-static void put(uint8_t kind, size_t first, size_t second) { list[count++] = (Sent){kind, (uint16_t)first, (uint16_t)second}; }
+static void put(uint8_t kind, size_t first, size_t second, size_t key)
+{
+    list[count++] = (Sent){kind, (uint8_t)key, (uint16_t)first, (uint16_t)second};
+}
 
 // The state that a list ended unknown leaves open: the last one read, or the last one where no step leaves it.
 static size_t left_open(const Class *c, int order)
@@ -167,15 +170,15 @@ static void make_list(const Class *c, size_t size, int order, int ending, int nt
     size_t spare = ending == ENDED_UNKNOWN ? left_open(c, order) : n;
     for (size_t i = 0; i < n; i++) {
         size_t s = order == BACKWARDS ? n - 1 - i : i;
-        for (size_t e = start[s]; e < start[s + 1]; e++) put('E', s, edge_to[e]);
-        if (ending == WITH_TERMINALS && below(50) == 0) put('T', s, 0);
-        if (s != spare) put('C', s, 0);
+        for (size_t e = start[s]; e < start[s + 1]; e++) put('E', s, edge_to[e], e % (MAX_KEY + 1));
+        if (ending == WITH_TERMINALS && below(50) == 0) put('T', s, 0, 0);
+        if (s != spare) put('C', s, 0, 0);
     }
 }
 
 // ---- the tables, the same memory for each engine
 
-static uint8_t status[MAX_STATES], marks[MAX_STATES];
+static uint8_t status[MAX_STATES], marks[MAX_STATES], key[MAX_STEPS];
 static uint16_t from[MAX_STEPS], to[MAX_STEPS], successor[MAX_STATES], news[MAX_STATES];
 static uint16_t in_head[MAX_STATES], out_head[MAX_STATES], queue[MAX_STATES], visited[MAX_STATES];
 static uint16_t in_next[MAX_STEPS], out_next[MAX_STEPS];
@@ -197,9 +200,9 @@ static double now(void)
 
 static inline uint32_t send(update_call *update, Sent u, size_t *steps)
 {
-    return update(n, MAX_STEPS, steps, u.kind, u.first, u.second, status, MAX_STATES, marks, MAX_STATES, from, MAX_STEPS, to, MAX_STEPS,
-                  successor, MAX_STATES, news, MAX_STATES, in_head, MAX_STATES, out_head, MAX_STATES, queue, MAX_STATES, visited,
-                  MAX_STATES, in_next, MAX_STEPS, out_next, MAX_STEPS);
+    return update(n, MAX_STEPS, steps, u.kind, u.first, u.second, u.key, status, MAX_STATES, marks, MAX_STATES, from, MAX_STEPS, to,
+                  MAX_STEPS, key, MAX_STEPS, successor, MAX_STATES, news, MAX_STATES, in_head, MAX_STATES, out_head, MAX_STATES, queue,
+                  MAX_STATES, visited, MAX_STATES, in_next, MAX_STEPS, out_next, MAX_STEPS);
 }
 
 static double run(update_call *update)
@@ -213,8 +216,9 @@ static double run(update_call *update)
 
 __attribute__((noinline)) static uint32_t empty_update(PARAMETERS)
 {
-    (void)n, (void)limit, (void)steps, (void)kind, (void)first, (void)second, (void)status, (void)status_len, (void)marks;
-    (void)marks_len, (void)from, (void)from_len, (void)to, (void)to_len, (void)successor, (void)successor_len, (void)news;
+    (void)n, (void)limit, (void)steps, (void)kind, (void)first, (void)second, (void)by_key, (void)status, (void)status_len, (void)marks;
+    (void)marks_len, (void)from, (void)from_len, (void)to, (void)to_len, (void)key, (void)key_len, (void)successor;
+    (void)successor_len, (void)news;
     (void)news_len, (void)in_head, (void)in_head_len, (void)out_head, (void)out_head_len, (void)queue, (void)queue_len;
     (void)visited, (void)visited_len, (void)in_next, (void)in_next_len, (void)out_next, (void)out_next_len;
     return 0;
@@ -222,12 +226,12 @@ __attribute__((noinline)) static uint32_t empty_update(PARAMETERS)
 
 // ---- what the engines tell
 
-// The answer to each update of a list, their news one behind the other, and the statuses at the end. A state is news once.
+// The answer to each update of a list, their news one behind the other, and the statuses and keys at the end. A state is news once.
 typedef struct {
     uint32_t answers[MOST_UPDATES];
     uint16_t news[MAX_STATES];
     size_t news_count;
-    uint8_t status[MAX_STATES];
+    uint8_t status[MAX_STATES], key[MAX_STEPS];
 } Told;
 
 static Told proved_told;
@@ -243,6 +247,7 @@ static void listen(update_call *update, const char *engine, Told *t)
 {
     size_t steps = 0;
     fresh();
+    memset(key, 255, sizeof key);    // no keys of the engine before
     t->news_count = 0;
     for (size_t i = 0; i < count; i++) {
         uint32_t answer = t->answers[i] = send(update, list[i], &steps);
@@ -251,7 +256,7 @@ static void listen(update_call *update, const char *engine, Told *t)
         memcpy(t->news + t->news_count, news, 2 * more);
         t->news_count += more;
     }
-    memcpy(t->status, status, sizeof status);
+    memcpy(t->status, status, sizeof status), memcpy(t->key, key, sizeof key);
 }
 
 // Another engine tells the same as the proved one.
@@ -260,7 +265,8 @@ static void hold(update_call *update, const char *engine)
     static Told told;
     listen(update, engine, &told);
     if (memcmp(told.answers, proved_told.answers, count * sizeof *told.answers) || told.news_count != proved_told.news_count ||
-        memcmp(told.news, proved_told.news, 2 * told.news_count) || memcmp(told.status, proved_told.status, sizeof told.status))
+        memcmp(told.news, proved_told.news, 2 * told.news_count) || memcmp(told.status, proved_told.status, sizeof told.status) ||
+        memcmp(told.key, proved_told.key, sizeof told.key))
         disagree(engine);
 }
 
@@ -443,26 +449,27 @@ enum { CALL_RUNS = 201 };
 
 static radvoinis_tables tables;
 
-static uint32_t raw_step(update_call *update, uint32_t u, uint32_t v)
+static uint32_t raw_step(update_call *update, uint32_t u, uint32_t v, uint32_t by)
 {
-    return update(tables.n, tables.limit, &tables.steps, 'E', u, v, tables.status, tables.n, tables.marks, tables.n, tables.from, tables.limit,
-                  tables.to, tables.limit, tables.successor, tables.n, tables.news, tables.n, tables.in_head, tables.n, tables.out_head,
-                  tables.n, tables.queue, tables.n, tables.visited, tables.n, tables.in_next, tables.limit, tables.out_next, tables.limit);
+    return update(tables.n, tables.limit, &tables.steps, 'E', u, v, by, tables.status, tables.n, tables.marks, tables.n, tables.from,
+                  tables.limit, tables.to, tables.limit, tables.key, tables.limit, tables.successor, tables.n, tables.news, tables.n,
+                  tables.in_head, tables.n, tables.out_head, tables.n, tables.queue, tables.n, tables.visited, tables.n, tables.in_next,
+                  tables.limit, tables.out_next, tables.limit);
 }
 
-static uint32_t step_short(uint32_t u, uint32_t v) { return radvoinis_step(&tables, u, v); }
-static uint32_t step_raw(uint32_t u, uint32_t v) { return raw_step(radvoinis_update, u, v); }
-static uint32_t step_plain(uint32_t u, uint32_t v) { return raw_step(baseline_update, u, v); }
-static uint32_t step_members(uint32_t u, uint32_t v) { return members_step(&tables, u, v); }
+static uint32_t step_short(uint32_t u, uint32_t v, uint32_t by) { return radvoinis_step_by_key(&tables, u, v, by); }
+static uint32_t step_raw(uint32_t u, uint32_t v, uint32_t by) { return raw_step(radvoinis_update, u, v, by); }
+static uint32_t step_plain(uint32_t u, uint32_t v, uint32_t by) { return raw_step(baseline_update, u, v, by); }
+static uint32_t step_members(uint32_t u, uint32_t v, uint32_t by) { return members_step(&tables, u, v, by); }
 
 typedef struct {
     const char *name;
-    uint32_t (*step)(uint32_t u, uint32_t v);
+    uint32_t (*step)(uint32_t u, uint32_t v, uint32_t by);
     double times[CALL_RUNS];
 } Call;
 
 static Call calls[] = {
-    {"radvoinis_step", step_short, {0}},
+    {"radvoinis_step_by_key", step_short, {0}},
     {"radvoinis_update", step_raw, {0}},
     {"the same in plain C, by the same call", step_plain, {0}},
     {"the same in plain C, on the struct, no length tested", step_members, {0}},
@@ -478,7 +485,7 @@ static void time_calls(void *memory, size_t size)
         for (int c = 0; c < CALLS; c++) {
             uint32_t sum = radvoinis_tables_fresh(&tables, memory, size, MAX_STATES, MAX_STEPS);
             double start = now();
-            for (size_t i = 0; i < MAX_STEPS; i++) sum |= calls[c].step(u[i], v[i]);
+            for (uint32_t i = 0; i < MAX_STEPS; i++) sum |= calls[c].step(u[i], v[i], i % (MAX_KEY + 1));
             calls[c].times[r] = now() - start;
             if (sum != 0 || tables.steps != MAX_STEPS) disagree(calls[c].name);
         }
@@ -527,7 +534,7 @@ int main(int argc, char **argv)
         "verdicts out afresh after each update; their ratios; list moves (next entries and successors read) an update of the C, and of\n"
         "its worst list. Medians of %d runs of each list, the engines in turn, in one process, by the thread's own clock; random classes\n"
         "have %d seeds, of which the naive engine, run once, has the first. All engines gave the same answers, the same news after each\n"
-        "update, entry for entry, and the same statuses.\n",
+        "update, entry for entry, and the same statuses and keys. The steps of a list have each key in turn.\n",
         RUNS, SEEDS);
     out("An empty function behind the same call takes %.1f ns.\n\n", empty_ns());
     measure_classes();

@@ -7,15 +7,15 @@
 #include <stdint.h>
 
 enum { UNSEEN = 0, OPEN = 1, UNKNOWN = 2, LIVE = 3, DEAD = 4 };
-enum { MAX_STATES = 2048, MAX_STEPS = 8192, NO_SUCCESSOR = 65535, REFUSED = 65536 };
+enum { MAX_STATES = 2048, MAX_STEPS = 8192, MAX_KEY = 31, NO_SUCCESSOR = 65535, REFUSED = 65536 };
 
 // The parameters of radvoinis_update, and the same as arguments.
 #define PARAMETERS                                                                                                              \
-    size_t n, size_t limit, size_t *steps, uint8_t kind, size_t first, size_t second, uint8_t *status, size_t status_len,         \
-        uint8_t *marks, size_t marks_len, uint16_t *from, size_t from_len, uint16_t *to, size_t to_len, uint16_t *successor,       \
-        size_t successor_len, uint16_t *news, size_t news_len, uint16_t *in_head, size_t in_head_len, uint16_t *out_head,          \
-        size_t out_head_len, uint16_t *queue, size_t queue_len, uint16_t *visited, size_t visited_len, uint16_t *in_next,          \
-        size_t in_next_len, uint16_t *out_next, size_t out_next_len
+    size_t n, size_t limit, size_t *steps, uint8_t kind, size_t first, size_t second, size_t by_key, uint8_t *status,             \
+        size_t status_len, uint8_t *marks, size_t marks_len, uint16_t *from, size_t from_len, uint16_t *to, size_t to_len,         \
+        uint8_t *key, size_t key_len, uint16_t *successor, size_t successor_len, uint16_t *news, size_t news_len,                  \
+        uint16_t *in_head, size_t in_head_len, uint16_t *out_head, size_t out_head_len, uint16_t *queue, size_t queue_len,         \
+        uint16_t *visited, size_t visited_len, uint16_t *in_next, size_t in_next_len, uint16_t *out_next, size_t out_next_len
 
 typedef uint32_t update_call(PARAMETERS);
 
@@ -30,6 +30,6 @@ extern unsigned long list_moves;
 update_call naive_update;
 
 // A step that settles nothing, on tables that are members of a struct.
-uint32_t members_step(radvoinis_tables *t, uint32_t u, uint32_t v);
+uint32_t members_step(radvoinis_tables *t, uint32_t u, uint32_t v, uint32_t key);
 
 #endif

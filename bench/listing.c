@@ -16,17 +16,17 @@ static uint8_t input[65536], output[131072];
 
 // ---- the tables
 
-static uint8_t status[MAX_STATES], marks[MAX_STATES];
+static uint8_t status[MAX_STATES], marks[MAX_STATES], key[LIMIT];
 static uint16_t from[LIMIT], to[LIMIT], successor[MAX_STATES], news[MAX_STATES];
 static uint16_t in_head[MAX_STATES], out_head[MAX_STATES], queue[MAX_STATES], visited[MAX_STATES];
 static uint16_t in_next[LIMIT], out_next[LIMIT];
 static size_t steps;
 
-static uint32_t update(uint8_t kind, size_t first, size_t second)
+static uint32_t update(uint8_t kind, size_t first, size_t second, size_t by_key)
 {
-    return baseline_update(MAX_STATES, LIMIT, &steps, kind, first, second, status, MAX_STATES, marks, MAX_STATES, from, LIMIT, to, LIMIT,
-                           successor, MAX_STATES, news, MAX_STATES, in_head, MAX_STATES, out_head, MAX_STATES, queue, MAX_STATES, visited,
-                           MAX_STATES, in_next, LIMIT, out_next, LIMIT);
+    return baseline_update(MAX_STATES, LIMIT, &steps, kind, first, second, by_key, status, MAX_STATES, marks, MAX_STATES, from, LIMIT,
+                           to, LIMIT, key, LIMIT, successor, MAX_STATES, news, MAX_STATES, in_head, MAX_STATES, out_head, MAX_STATES,
+                           queue, MAX_STATES, visited, MAX_STATES, in_next, LIMIT, out_next, LIMIT);
 }
 
 // ---- lines
@@ -37,11 +37,11 @@ typedef struct {
     size_t len;
 } Line;
 
-// Where reading stands in the record: the line so far, its number from 1, and whether reading has stopped.
+// Where reading stands in the record: the line so far, its number from 1, whether lines have keys, and whether reading has stopped.
 typedef struct {
     Line line;
     size_t number;
-    int stopped;
+    int keyed, stopped;
 } Splitter;
 
 // Adds the bytes of s from an index on, up to a newline or the end, and answers where that is.
@@ -56,7 +56,7 @@ static size_t fill(Line *line, const uint8_t *s, size_t len, size_t at)
     return at;
 }
 
-static int is_names(const Line *line) { return line->len == 12 && !memcmp(line->bytes, "kind from to", 12); }
+static int is_text(const Line *line, const char *s) { return line->len == strlen(s) && !memcmp(line->bytes, s, strlen(s)); }
 
 // ---- the grammar of a line: each takes what it asks for at *at, and moves it on; or answers 0
 
@@ -78,22 +78,32 @@ static int take_value(const Line *line, size_t *at, size_t *value)
 }
 
 // The number of the line's news, or REFUSED plus the number of its refusal.
-static uint32_t apply(const Line *line)
+static uint32_t apply(const Line *line, int keyed)
 {
-    size_t at = 1, first, second;
+    size_t at = 1, first, second, by_key = 0;
     if (line->len == 0 || line->len > MOST_BYTES) return REFUSED + MALFORMED;
     if (!take(line, &at, ' ') || !take_value(line, &at, &first) || !take(line, &at, ' ')) return REFUSED + MALFORMED;
     uint8_t kind = line->bytes[0];
     switch (kind) {
     case 'E':
-        if (!take_value(line, &at, &second) || at < line->len) return REFUSED + MALFORMED;
-        return update(kind, first, second);
+        if (!take_value(line, &at, &second)) return REFUSED + MALFORMED;
+        if (keyed && (!take(line, &at, ' ') || !take_value(line, &at, &by_key))) return REFUSED + MALFORMED;
+        if (at < line->len) return REFUSED + MALFORMED;
+        return update(kind, first, second, by_key);
     case 'T':
     case 'C':
-        if (!take(line, &at, '-') || at < line->len) return REFUSED + MALFORMED;
-        return update(kind, first, 0);
+        if (!take(line, &at, '-')) return REFUSED + MALFORMED;
+        if (keyed && (!take(line, &at, ' ') || !take(line, &at, '-'))) return REFUSED + MALFORMED;
+        if (at < line->len) return REFUSED + MALFORMED;
+        return update(kind, first, 0, 0);
     default: return REFUSED + MALFORMED;
     }
+}
+
+static uint32_t begun(Splitter *s)
+{
+    s->keyed = is_text(&s->line, "kind from to key");
+    return s->keyed || is_text(&s->line, "kind from to") ? 0 : REFUSED + BAD_NAMES;
 }
 
 // The line has ended: what comes of it, where nothing counts as no news.
@@ -101,9 +111,9 @@ static uint32_t ended(Splitter *s)
 {
     if (s->stopped) return 0;
     uint32_t answer;
-    if (s->number == 1) answer = is_names(&s->line) ? 0 : REFUSED + BAD_NAMES;
+    if (s->number == 1) answer = begun(s);
     else if (s->number > MOST_LINES) answer = REFUSED + TOO_MANY;
-    else answer = apply(&s->line);
+    else answer = apply(&s->line, s->keyed);
     s->stopped = answer == REFUSED + BAD_NAMES || answer == REFUSED + TOO_MANY;
     s->line.len = 0;
     s->number++;

@@ -26,34 +26,49 @@ static void line(const char *s)
     lines++;
 }
 
-static void step(size_t u, size_t v)
+// Whether the lines of the record at hand have keys.
+static int keyed;
+
+static void step_by(size_t u, size_t v, size_t key)
 {
-    char s[32];
-    snprintf(s, sizeof s, "E %zu %zu", u, v);
+    char s[48];
+    int end = snprintf(s, sizeof s, "E %zu %zu", u, v);
+    if (keyed) snprintf(s + end, sizeof s - (size_t)end, " %zu", key);
     line(s);
 }
+
+static void step(size_t u, size_t v) { step_by(u, v, lines % (MAX_KEY + 1)); }
 
 static void mark(char kind, size_t u)
 {
     char s[32];
-    snprintf(s, sizeof s, "%c %zu -", kind, u);
+    snprintf(s, sizeof s, keyed ? "%c %zu - -" : "%c %zu -", kind, u);
     line(s);
 }
 
-static void names(void) { line("kind from to"); }
+static void begin(int with_keys)
+{
+    keyed = with_keys;
+    line(keyed ? "kind from to key" : "kind from to");
+}
+
+static void names(void) { begin(1); }
 
 static void names_alone(void) { names(); }
 
 // Steps between any states until their limit, few marks and closes among them.
-static void random_steps(void)
+static void random_updates(void)
 {
-    for (names(); lines < LINES;) {
+    while (lines < LINES) {
         size_t u = below(MAX_STATES), chance = below(100);
         if (chance < 2) mark('T', u);
         else if (chance < 10) mark('C', u);
         else step(u, below(MAX_STATES));
     }
 }
+
+static void random_steps(void) { names(), random_updates(); }
+static void random_without_keys(void) { begin(0), random_updates(); }
 
 static void random_marks(void)
 {
@@ -103,10 +118,16 @@ static void too_large(void)
     for (names(); lines < LINES;) step(MAX_STATES + below(65536 - MAX_STATES), below(MAX_STATES));
 }
 
+static void key_too_large(void)
+{
+    for (names(); lines < LINES;) step_by(below(MAX_STATES), below(MAX_STATES), MAX_KEY + 1 + below(99 - MAX_KEY));
+}
+
 static void malformed(void)
 {
-    static const char *const forms[] = {"", "E 1", "E 01 2", "E 1 2\r", "X 1 2", "E 65536 1", "T 3 4", "C 3 -x", "E  1 2", "kind from to",
-                                        "E 1 2 ", "E 1234567890 12345", "T - -", "e 1 2", "C 1024 1024", "E 1024 -"};
+    static const char *const forms[] = {"", "E 1 2", "E 01 2 3", "E 1 2 3\r", "X 1 2 3", "E 65536 1 3", "T 3 - 4", "C 3 - -x", "E  1 2 3",
+                                        "kind from to key", "E 1 2 3 ", "E 1234567890 12345 3", "T - - -", "e 1 2 3", "C 1024 1024 -",
+                                        "E 1024 2 -"};
     for (names(); lines < LINES;) line(forms[below(sizeof forms / sizeof *forms)]);
 }
 
@@ -117,7 +138,8 @@ static void long_lines(void)
 
 static void wrong_names(void)
 {
-    line("kind, from, to");
+    line("kind, from, to, key");
+    keyed = 1;
     while (lines < LINES) step(below(MAX_STATES), below(MAX_STATES));
 }
 
@@ -131,6 +153,7 @@ static const struct {
     void (*make)(void);
 } kinds[] = {
     {"steps until the limit, then 9", random_steps},
+    {"the same kind without keys", random_without_keys},
     {"terminal marks and closes", random_marks},
     {"an explorer's steps and closes, then 6 and closes again", explored},
     {"a ring read forwards, then 6 and closes again", ring_forwards},
@@ -138,6 +161,7 @@ static const struct {
     {"news with the first mark of each state", marked_again},
     {"news with each update", news_each},
     {"each line refused with 5", too_large},
+    {"each line refused with 14", key_too_large},
     {"each line refused with 11", malformed},
     {"each line refused with 11, of 65 bytes", long_lines},
     {"10 at line 1, the rest not read", wrong_names},
@@ -292,7 +316,8 @@ int main(int argc, char **argv)
     out("\n## Listings\n\n"
         "Milliseconds a record for the proved listing program and for the same program in plain C, each a process, from its start to its\n"
         "end, with nothing taken off; lines and bytes of the record, and bytes of its listing. Medians of %d runs of each record, the\n"
-        "programs in turn, by the clock on the wall. Both programs printed the same bytes.\n\n",
+        "programs in turn, by the clock on the wall. Both programs printed the same bytes. The records begin with `kind from to key`, and\n"
+        "their steps have each key in turn, but for the one without keys, which begins with `kind from to`.\n\n",
         RUNS);
     show_listings();
     return close_page();

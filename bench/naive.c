@@ -63,18 +63,19 @@ static size_t classify(Naive *e)
     return count;
 }
 
-static int refused(size_t n, size_t limit, size_t steps, const uint8_t *marks, uint8_t kind, size_t first, size_t second)
+static int refused(size_t n, size_t limit, size_t steps, const uint8_t *marks, uint8_t kind, size_t first, size_t second, size_t key)
 {
     if (first >= n || (kind == 'E' && second >= n)) return 5;
+    if (kind == 'E' && key > MAX_KEY) return 14;
     if (kind != 'C' && (marks[first] & CLOSED)) return 6;
     return kind == 'E' && steps == limit ? 9 : 0;
 }
 
 uint32_t naive_update(PARAMETERS)
 {
-    (void)status_len, (void)marks_len, (void)from_len, (void)to_len, (void)successor_len, (void)news_len, (void)in_head_len;
-    (void)out_head_len, (void)queue_len, (void)visited_len, (void)in_next_len, (void)out_next_len;
-    int number = refused(n, limit, *steps, marks, kind, first, second);
+    (void)status_len, (void)marks_len, (void)from_len, (void)to_len, (void)key_len, (void)successor_len, (void)news_len;
+    (void)in_head_len, (void)out_head_len, (void)queue_len, (void)visited_len, (void)in_next_len, (void)out_next_len;
+    int number = refused(n, limit, *steps, marks, kind, first, second, by_key);
     if (number) return REFUSED + (uint32_t)number;
     if (kind == 'C' && (marks[first] & CLOSED)) return 0;
     marks[first] |= kind == 'E' ? NAMED : kind == 'T' ? NAMED | TERMINAL : NAMED | CLOSED;
@@ -83,6 +84,7 @@ uint32_t naive_update(PARAMETERS)
         marks[second] |= NAMED;
         from[p] = (uint16_t)first;
         to[p] = (uint16_t)second;
+        key[p] = (uint8_t)by_key;
         in_next[p] = in_head[second];
         in_head[second] = (uint16_t)(p + 1);
         out_next[p] = out_head[first];

@@ -6,8 +6,10 @@
 #include <stdlib.h>
 
 enum { PAUSED, AUTOLAP, RUN_SCREEN, STATES, LIMIT = 4 };
+enum { START_KEY, LAP_KEY };
 
 static const char *const names[STATES] = {"paused", "autolap", "run screen"};
+static const char *const keys[] = {"start key", "lap key"};
 static const char *const words[] = {"unseen", "open", "unknown", "live", "dead"};
 
 /* What came of an update: the states that it settled, or the number of its refusal. */
@@ -21,10 +23,10 @@ static void tell(const radvoinis_tables *t, uint32_t answer)
     printf("\n");
 }
 
-static void step(radvoinis_tables *t, uint32_t from, uint32_t to)
+static void step(radvoinis_tables *t, uint32_t from, uint32_t to, uint32_t key)
 {
-    printf("E %s -> %s:", names[from], names[to]);
-    tell(t, radvoinis_step(t, from, to));
+    printf("E %s -> %s, %s:", names[from], names[to], keys[key]);
+    tell(t, radvoinis_step_by_key(t, from, to, key));
 }
 
 static void save_at(radvoinis_tables *t, uint32_t state)
@@ -52,9 +54,9 @@ int main(void)
 
     printf("The slow step arrives before both closes:\n");
     if (radvoinis_tables_fresh(&t, memory, size, STATES, LIMIT) != 0) return 1;
-    step(&t, PAUSED, AUTOLAP);
-    step(&t, AUTOLAP, PAUSED);
-    step(&t, AUTOLAP, RUN_SCREEN);
+    step(&t, PAUSED, AUTOLAP, LAP_KEY);
+    step(&t, AUTOLAP, PAUSED, START_KEY);
+    step(&t, AUTOLAP, RUN_SCREEN, LAP_KEY);
     close_state(&t, PAUSED);
     close_state(&t, AUTOLAP);
     verdicts(&t);
@@ -64,11 +66,11 @@ int main(void)
 
     printf("It arrives after both closes, too late: a closed state takes no further step.\n");
     radvoinis_tables_fresh(&t, memory, size, STATES, LIMIT);
-    step(&t, PAUSED, AUTOLAP);
-    step(&t, AUTOLAP, PAUSED);
+    step(&t, PAUSED, AUTOLAP, LAP_KEY);
+    step(&t, AUTOLAP, PAUSED, START_KEY);
     close_state(&t, PAUSED);
     close_state(&t, AUTOLAP);
-    step(&t, AUTOLAP, RUN_SCREEN);
+    step(&t, AUTOLAP, RUN_SCREEN, LAP_KEY);
     verdicts(&t);
 
     printf("The tables %s, and as a record they are:\n", radvoinis_check(&t) == 1 ? "fit" : "do not fit");

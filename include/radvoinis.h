@@ -1,13 +1,13 @@
 /* The verdict engine for C and C++: link libradvoinis.a. radvoinis(3) is the manual page; docs/PROMISES.md says what each call promises.
 
-   An explorer lays out tables once (radvoinis_tables_fresh), sends each update as it comes (radvoinis_step, radvoinis_terminal,
-   radvoinis_close), and is told after each one how many states it settled: their numbers stand in the front of `news`, their verdicts
-   in `status`. These short calls are thin C over the raw calls below, which are proved: each promises its answer and what it leaves
-   in every table, on tables with any contents.
+   An explorer lays out tables once (radvoinis_tables_fresh), sends each update as it comes (radvoinis_step or radvoinis_step_by_key,
+   radvoinis_terminal, radvoinis_close), and is told after each one how many states it settled: their numbers stand in the front of
+   `news`, their verdicts in `status`. These short calls are thin C over the raw calls below, which are proved: each promises its
+   answer and what it leaves in every table, on tables with any contents.
 
    What a caller must see to, since no call can:
    - Pointers. Each table is readable, and writable where it is not const, over the length that is lent with it (in a radvoinis_tables:
-     n entries, or limit entries for from, to, in_next and out_next). No pointer is NULL, also where its length is 0 (the memory
+     n entries, or limit entries for from, to, key, in_next and out_next). No pointer is NULL, also where its length is 0 (the memory
      handed to radvoinis_tables_fresh may be). Tables of 16-bit entries, and the size_t of *steps and *at, are aligned as their type
      asks; bytes may stand anywhere.
    - Tables do not overlap: no two of one call, and none with *steps, *at or the buffer. Two that are const may.
@@ -18,7 +18,7 @@
    Calls are reentrant. They keep nothing between them: no heap, no global, no lock. Threads may call at the same time on different
    tables, and on the same ones where every such call takes them as const.
 
-   Stack: radvoinis_status takes 46 KiB, since its tables are local; every other call less than 1 KiB.
+   Stack: radvoinis_status takes 48 KiB, since its tables are local; every other call less than 1 KiB.
 
    Cost: a step or a terminal mark that makes nothing live takes constant time; one that does walks the steps into each state that it
    makes live, once, and looks at the numbers between the least and the greatest of them. A close looks at the steps out of its
@@ -43,22 +43,26 @@ extern "C" {
 #define RADVOINIS_MAX_STATES 2048u
 #define RADVOINIS_MAX_STEPS 8192u
 
+/* Each step has a key, from 0 to this. Two steps that differ only in key are two steps; a key changes no verdict. */
+#define RADVOINIS_MAX_KEY 31u
+
 /* A refusal answers this plus its number. */
 #define RADVOINIS_REFUSED 65536u
 
 /* radvoinis_status answers a refusal by this plus its number. */
 #define RADVOINIS_LINE_REFUSED 16u
 
-/* The numbers of the refusals. A call answers the first that applies, in this order. */
+/* The numbers of the refusals. A call answers the first that applies, in this order: that of the tests, not of the numbers. */
 enum radvoinis_refusal {
     RADVOINIS_BAD_STATES = 1,      /* n is 0 or above 2,048 */
     RADVOINIS_BAD_LIMIT = 2,       /* the step limit is 0 or above 8,192 */
     RADVOINIS_SHORT_TABLE = 3,     /* a lent table is too short */
     RADVOINIS_EXCESS_STEPS = 4,    /* the number of steps is above the limit */
     RADVOINIS_OUT_OF_RANGE = 5,    /* a state is n or more */
+    RADVOINIS_BAD_KEY = 14,        /* the key of a step is above 31 */
     RADVOINIS_CLOSED_SOURCE = 6,   /* a step or a terminal mark from a closed state */
     RADVOINIS_LIST_FULL = 9,       /* a step where the list is full */
-    RADVOINIS_BAD_NAMES = 10,      /* a record's first line is not the names line */
+    RADVOINIS_BAD_NAMES = 10,      /* a record's first line is neither "kind from to" nor "kind from to key" */
     RADVOINIS_MALFORMED = 11,      /* a line of a record is no update; a kind that is none of E, T and C */
     RADVOINIS_TOO_MANY_LINES = 12, /* a record has more than 65,535 lines */
     RADVOINIS_SHORT_BUFFER = 13    /* the record does not fit the buffer */
@@ -96,6 +100,7 @@ typedef struct radvoinis_tables {
     uint8_t *marks;      /* n: the sum of an enum radvoinis_mark's bits each */
     uint16_t *from;      /* limit: the listed steps, of which the first `steps` count */
     uint16_t *to;        /* limit */
+    uint8_t *key;        /* limit: 0 to 31 each */
     uint16_t *successor; /* n: for an unknown state, a step by which an open one is reached */
     uint16_t *news;      /* n: the states that the last update settled, rising, in its front */
     uint16_t *in_head;   /* n; this and what follows is the engine's own */
@@ -114,10 +119,11 @@ size_t radvoinis_tables_size(uint32_t n, uint32_t limit);
    nothing. The memory is the caller's, and is needed as long as the tables are. */
 uint32_t radvoinis_tables_fresh(radvoinis_tables *t, void *memory, size_t size, uint32_t n, uint32_t limit);
 
-/* The updates: a step from state to state, a terminal mark, a close. Each answers the number of its news, which stand in the front of
-   t->news, or RADVOINIS_REFUSED plus the number of its refusal (1 to 6, 9), and then changes nothing. A close of a closed state answers 0
-   and changes nothing either. */
+/* The updates: a step from state to state, by key 0 or by a key that is sent, a terminal mark, a close. Each answers the number of its
+   news, which stand in the front of t->news, or RADVOINIS_REFUSED plus the number of its refusal (1 to 6, 9, 14), and then changes
+   nothing. A close of a closed state answers 0 and changes nothing either. */
 uint32_t radvoinis_step(radvoinis_tables *t, uint32_t from, uint32_t to);
+uint32_t radvoinis_step_by_key(radvoinis_tables *t, uint32_t from, uint32_t to, uint32_t key);
 uint32_t radvoinis_terminal(radvoinis_tables *t, uint32_t state);
 uint32_t radvoinis_close(radvoinis_tables *t, uint32_t state);
 
@@ -132,21 +138,22 @@ uint32_t radvoinis_save(const radvoinis_tables *t, uint8_t *buf, size_t len, siz
 
 /* ---- The call on a record's bytes */
 
-/* The status of a state after a record of 2,048 states and at most 2,048 steps: 0 to 4; or RADVOINIS_LINE_REFUSED plus the number
-   of the first refused line (5, 6, 9 to 12). A state of 2,048 or more answers 21, tested first. */
+/* The status of a state after a record of 2,048 states and at most 2,048 steps, which have key 0 where the names line is "kind from
+   to": 0 to 4; or RADVOINIS_LINE_REFUSED plus the number of the first refused line (5, 6, 9 to 12, 14). A state of 2,048 or more
+   answers 21, tested first. */
 uint8_t radvoinis_status(const uint8_t *record, size_t record_len, uint32_t state);
 
 /* ---- The raw calls: each table a pointer and a length, wherever the caller keeps it. */
 
-/* One update on the caller's tables: kind is 'E' (a step from first to second), 'T' (a terminal mark on first) or 'C' (a close
-   of first). Answers the number of its news, which stand in the front of the news list, and brings *steps up to date; or
-   RADVOINIS_REFUSED plus the number of its refusal (1 to 6, 9; 11 for any other kind, tested behind 1 to 4), and changes nothing.
-   A close of a closed state answers 0 and changes nothing either, whatever the tables hold.
-   Needed lengths: n for status, marks, successor, news, in_head, out_head, queue, visited; limit for from, to, in_next, out_next.
+/* One update on the caller's tables: kind is 'E' (a step from first to second by the key by_key), 'T' (a terminal mark on first) or
+   'C' (a close of first); second and by_key are a step's alone. Answers the number of its news, which stand in the front of the news
+   list, and brings *steps up to date; or RADVOINIS_REFUSED plus the number of its refusal (1 to 6, 9, 14; 11 for any other kind,
+   tested behind 1 to 4), and changes nothing. A close of a closed state answers 0 and changes nothing either, whatever the tables hold.
+   Needed lengths: n for status, marks, successor, news, in_head, out_head, queue, visited; limit for from, to, key, in_next, out_next.
    Fresh tables are all zero, with 65,535 in every successor entry; *steps is 0. */
-uint32_t radvoinis_update(size_t n, size_t limit, size_t *steps, uint8_t kind, size_t first, size_t second,
+uint32_t radvoinis_update(size_t n, size_t limit, size_t *steps, uint8_t kind, size_t first, size_t second, size_t by_key,
                           uint8_t *status, size_t status_len, uint8_t *marks, size_t marks_len,
-                          uint16_t *from, size_t from_len, uint16_t *to, size_t to_len,
+                          uint16_t *from, size_t from_len, uint16_t *to, size_t to_len, uint8_t *key, size_t key_len,
                           uint16_t *successor, size_t successor_len, uint16_t *news, size_t news_len,
                           uint16_t *in_head, size_t in_head_len, uint16_t *out_head, size_t out_head_len,
                           uint16_t *queue, size_t queue_len, uint16_t *visited, size_t visited_len,
@@ -163,16 +170,16 @@ size_t radvoinis_news_len(const uint16_t *news, size_t news_len, size_t count);
    after a 1 no state is marked visited. */
 uint32_t radvoinis_audit(size_t n, size_t limit, size_t steps,
                          const uint8_t *status, size_t status_len, const uint8_t *marks, size_t marks_len,
-                         const uint16_t *from, size_t from_len, const uint16_t *to, size_t to_len,
+                         const uint16_t *from, size_t from_len, const uint16_t *to, size_t to_len, const uint8_t *key, size_t key_len,
                          const uint16_t *successor, size_t successor_len,
                          const uint16_t *in_head, size_t in_head_len, const uint16_t *out_head, size_t out_head_len,
                          uint16_t *queue, size_t queue_len, uint16_t *visited, size_t visited_len,
                          const uint16_t *in_next, size_t in_next_len, const uint16_t *out_next, size_t out_next_len);
 
-/* The record writer: fills buf from the index *at on. Answers 0 and brings *at to the index after the last byte; or
-   RADVOINIS_REFUSED plus the number of the refusal (1 to 4, 13), and changes nothing. */
+/* The record writer: fills buf from the index *at on, with the names line "kind from to key". Answers 0 and brings *at to the index
+   after the last byte; or RADVOINIS_REFUSED plus the number of the refusal (1 to 4, 13), and changes nothing. */
 uint32_t radvoinis_write(size_t n, size_t limit, size_t steps, const uint8_t *marks, size_t marks_len,
-                         const uint16_t *from, size_t from_len, const uint16_t *to, size_t to_len,
+                         const uint16_t *from, size_t from_len, const uint16_t *to, size_t to_len, const uint8_t *key, size_t key_len,
                          uint8_t *buf, size_t buf_len, size_t *at);
 
 #ifdef __cplusplus

@@ -1,5 +1,5 @@
-// The record writer's suite: radvoinis_write against a writer written from document 01 alone (writing.h); and what it wrote read back
-// by the naive reader, by the listing program and by radvoinis_status.
+// The record writer's suite: radvoinis_write against a writer written from documents 01 and 02 alone (writing.h); and what it wrote read
+// back by the naive reader, by the listing program and by radvoinis_status.
 #include "../include/radvoinis.h"
 #include "groups.h"
 #include "lent.h"
@@ -31,8 +31,8 @@ static const char *const check_names[CHECKS] = {
     "the place after the last byte",
     "all other bytes of the buffer, around it and of the tables kept",
     "nothing changed on a refusal",
-    "a record as document 01 has it",
-    "read back: same marks, steps and statuses, unseen from n on",
+    "a record as documents 01 and 02 have it",
+    "read back: same marks, steps, keys and statuses, unseen from n on",
     "listed back: nothing refused, totals of the status table",
     "asked back: same statuses, unseen from n on",
 };
@@ -45,7 +45,7 @@ static Lent lent_a;
 static Table buffer;
 static size_t place[3], place_before[3];    // the place stands in the middle
 
-enum { EXTRA = 64, WRITTEN = 1 << MARKS | 1 << FROM | 1 << TO };
+enum { EXTRA = 64, WRITTEN = 1 << MARKS | 1 << FROM | 1 << TO | 1 << KEY };
 
 static char record[RECORD_MOST + 1];
 static size_t length;
@@ -55,7 +55,7 @@ static uint32_t call_write(Lent *l)
     const Table *t = l->table;
     call_begin();
     uint32_t answer = radvoinis_write(l->n, l->limit, l->steps[1], bytes(l, MARKS), t[MARKS].told, words(l, FROM), t[FROM].told,
-                                      words(l, TO), t[TO].told, buffer.at, buffer.told, &place[1]);
+                                      words(l, TO), t[TO].told, bytes(l, KEY), t[KEY].told, buffer.at, buffer.told, &place[1]);
     call_end();
     return answer;
 }
@@ -63,7 +63,7 @@ static uint32_t call_write(Lent *l)
 // The naive writer's record of the tables; answers its length.
 static size_t right_record(const Lent *l)
 {
-    return length = writing_write(l->n, l->steps[1], bytes(l, MARKS), words(l, FROM), words(l, TO), record);
+    return length = writing_write(l->n, l->steps[1], bytes(l, MARKS), words(l, FROM), words(l, TO), bytes(l, KEY), record);
 }
 
 // The number of the first test that applies, or 0; then the record at hand is that of the tables.
@@ -185,18 +185,16 @@ static void hold_round_trip(Lent *l, int list, size_t states)
 
 static void group_sample(void)
 {
-    static const char *const updates[] = {"E01", "T2", "E10", "C1", "T0", "E02", "C2"};
-    static const char sample[] = "kind from to\nT 0 -\nT 2 -\nE 0 1\nE 1 0\nE 0 2\nC 1 -\nC 2 -\n";
+    static const Update updates[] = {{'E', 0, 1, 31}, {'T', 2, 0, 0}, {'E', 1, 0, 7}, {'C', 1, 0, 0}, {'T', 0, 0, 0},
+                                     {'E', 0, 2, 0},  {'E', 0, 1, 8}, {'E', 0, 1, 32}, {'C', 2, 0, 0}};
+    static const char sample[] = "kind from to key\nT 0 - -\nT 2 - -\nE 0 1 31\nE 1 0 7\nE 0 2 0\nE 0 1 8\nC 1 - -\nC 2 - -\n";
     Lent *l = &lent_a;
     shown_history = NULL;
     lent_size(l, 3, 4, 0);
     lent_fresh(l);
-    check(CHECK_SAMPLE, right_record(l) == strlen(record) && strcmp(record, "kind from to\n") == 0);
+    check(CHECK_SAMPLE, right_record(l) == strlen(record) && strcmp(record, "kind from to key\n") == 0);
     hold_buffers(l);
-    for (size_t i = 0; i < sizeof updates / sizeof *updates; i++) {
-        const char *u = updates[i];
-        lent_update(l, (Update){(uint8_t)u[0], (size_t)(u[1] - '0'), u[2] ? (size_t)(u[2] - '0') : 0});
-    }
+    for (size_t i = 0; i < sizeof updates / sizeof *updates; i++) lent_update(l, updates[i]);
     check(CHECK_SAMPLE, right_record(l) == strlen(record) && strcmp(record, sample) == 0);
     hold_buffers(l);
     hold_round_trip(l, 1, MOST_STATES);
@@ -254,7 +252,41 @@ static void group_runs_large(void)
     if (!failed) hold_buffers(&lent_a), hold_round_trip(&lent_a, 1, 4);
 }
 
-// On any contents: bits above 7 in the marks, ends of steps that are no states.
+// Every key byte, also those that no tables that fit have: of a step whose ends have as many digits as a state can, or as an entry can,
+// beside others that differ from it only in key, of which those behind the list are not written.
+static void group_keys(void)
+{
+    static const size_t ends[][2] = {{0, 0}, {3, 12}, {2047, 999}, {65535, 65535}};
+    Lent *l = &lent_a;
+    shown_history = NULL;
+    lent_size(l, 13, 4, 2);
+    lent_fresh(l);
+    for (size_t i = 0; i < 256 * 4 && !failed; i++) {
+        for (size_t p = 0; p < 4; p++) {
+            table_set(&l->table[FROM], p, ends[i % 4][0]), table_set(&l->table[TO], p, ends[i % 4][1]);
+            table_set(&l->table[KEY], p, p == 1 ? i / 4 : below(256));
+        }
+        l->steps[1] = 1 + below(3);
+        hold_buffers(l);
+    }
+}
+
+// The same by updates, and back: three steps that differ only in key.
+static void group_keys_back(void)
+{
+    Lent *l = &lent_a;
+    shown_history = NULL;
+    for (size_t key = 0; key <= MOST_KEY && !failed; key++) {
+        lent_size(l, 13, 3, 2);
+        lent_fresh(l);
+        for (size_t p = 0; p < 3; p++) lent_update(l, (Update){'E', 3, 12, (key + p) % (MOST_KEY + 1)});
+        check(CHECK_SAMPLE, l->steps[1] == 3);
+        hold_buffers(l);
+        hold_round_trip(l, 1, 4);
+    }
+}
+
+// On any contents: bits above 7 in the marks, ends of steps that are no states, keys above 31.
 static void group_contents(void)
 {
     shown_history = NULL;
@@ -272,7 +304,7 @@ static void group_longest(void)
     Lent *l = &lent_a;
     shown_history = NULL;
     lent_size(l, MOST_STATES, MOST_STEPS, 0);
-    for (Name k = MARKS; k <= TO; k++) memset(l->table[k].at, 255, l->table[k].length * l->table[k].width);
+    for (Name k = MARKS; k <= KEY; k++) memset(l->table[k].at, 255, l->table[k].length * l->table[k].width);
     l->steps[1] = MOST_STEPS;
     hold_buffers(l);
     memset(bytes(l, MARKS), 1, MOST_STATES);
@@ -321,10 +353,12 @@ static void group_places(void)
 // ---- all groups
 
 static const Group groups[] = {
-    {"a record as document 01 has it", group_sample},
+    {"a record as documents 01 and 02 have it", group_sample},
     {"after each update of every short list, and back", group_lists},
     {"random runs, up to 12 states, and back", group_runs_small},
     {"random runs, up to 2,048 states and 8,192 steps, and back", group_runs_large},
+    {"every key, on tables that fit or not", group_keys},
+    {"steps that differ only in key, and back", group_keys_back},
     {"tables of random contents", group_contents},
     {"the longest records", group_longest},
     {"tables of random lengths", group_lengths},

@@ -17,6 +17,7 @@ typedef enum {
     CHECK_KEPT,
     CHECK_GOES_ON,
     CHECK_WRITTEN_FITS,
+    CHECK_KEYS,
     CHECK_DEFINITION,
     CHECKS
 } Check;
@@ -28,6 +29,7 @@ static const char *const check_names[CHECKS] = {
     "all but the queue kept after a yes, all but queue and visited after a no, past n and around the tables too",
     "a run with checks in between: same answers, news and tables",
     "tables written for a history fit",
+    "a listed key above 31 is found, a key behind the list is not looked at",
     "the definition is what every short history gives",
 };
 
@@ -45,9 +47,9 @@ static uint32_t audit(Lent *l)
     call_begin();
     uint32_t answer = radvoinis_audit(
         l->n, l->limit, l->steps[1], bytes(l, STATUS), t[STATUS].told, bytes(l, MARKS), t[MARKS].told, words(l, FROM), t[FROM].told,
-        words(l, TO), t[TO].told, words(l, SUCCESSOR), t[SUCCESSOR].told, words(l, IN_HEAD), t[IN_HEAD].told, words(l, OUT_HEAD),
-        t[OUT_HEAD].told, words(l, QUEUE), t[QUEUE].told, words(l, VISITED), t[VISITED].told, words(l, IN_NEXT), t[IN_NEXT].told,
-        words(l, OUT_NEXT), t[OUT_NEXT].told);
+        words(l, TO), t[TO].told, bytes(l, KEY), t[KEY].told, words(l, SUCCESSOR), t[SUCCESSOR].told, words(l, IN_HEAD),
+        t[IN_HEAD].told, words(l, OUT_HEAD), t[OUT_HEAD].told, words(l, QUEUE), t[QUEUE].told, words(l, VISITED), t[VISITED].told,
+        words(l, IN_NEXT), t[IN_NEXT].told, words(l, OUT_NEXT), t[OUT_NEXT].told);
     call_end();
     return answer;
 }
@@ -79,23 +81,31 @@ static int fit(Lent *l)
     return (int)right;
 }
 
-// ---- the definition against every short history, over two states and up to two steps
+// ---- the definition against every short history, over two states and up to two steps, by keys 0 and 31; the tables may hold 32
 
-enum { STEP_LISTS = 1 + 4 + 16, SHORT_TABLES = 64 * 25 * STEP_LISTS };
+enum { SHORT_KEYS = 3, SHORT_STEPS = 4 * SHORT_KEYS, STEP_LISTS = 1 + SHORT_STEPS + SHORT_STEPS * SHORT_STEPS };
+enum { SHORT_TABLES = 64 * 25 * STEP_LISTS };
 
 static uint8_t given[SHORT_TABLES];
+static const uint8_t short_keys[SHORT_KEYS] = {0, MOST_KEY, MOST_KEY + 1};
 
 // The tables of two states have a number: marks, statuses and step list, by their digits.
 typedef struct {
     size_t steps;
-    uint8_t marks[2], status[2];
+    uint8_t marks[2], status[2], key[2];
     uint16_t from[2], to[2];
 } Short;
 
+static size_t step_number(const Short *x, size_t p)
+{
+    size_t k = x->key[p] == short_keys[0] ? 0 : x->key[p] == short_keys[1] ? 1 : 2;
+    return 4 * k + 2 * (size_t)x->from[p] + x->to[p];
+}
+
 static size_t short_number(const Short *x)
 {
-    size_t list = x->steps > 0 ? 1 + 2 * (size_t)x->from[0] + x->to[0] : 0;
-    if (x->steps > 1) list = 5 + 4 * (list - 1) + 2 * (size_t)x->from[1] + x->to[1];
+    size_t list = x->steps > 0 ? 1 + step_number(x, 0) : 0;
+    if (x->steps > 1) list = 1 + SHORT_STEPS + SHORT_STEPS * (list - 1) + step_number(x, 1);
     return ((list * 8 + x->marks[0]) * 8 + x->marks[1]) * 25 + x->status[0] * 5u + x->status[1];
 }
 
@@ -106,7 +116,8 @@ static void give(const History *h)
     reference_statuses(h, x.status);
     for (size_t i = 0; i < h->count; i++) {
         if (h->accepted[i].kind != 'E') continue;
-        x.from[x.steps] = (uint16_t)h->accepted[i].first, x.to[x.steps++] = (uint16_t)h->accepted[i].second;
+        x.from[x.steps] = (uint16_t)h->accepted[i].first, x.to[x.steps] = (uint16_t)h->accepted[i].second;
+        x.key[x.steps++] = (uint8_t)h->accepted[i].key;
     }
     given[short_number(&x)] = 1;
 }
@@ -120,9 +131,12 @@ static void give_every(History *h, int updates)
     for (size_t i = 0; i < updates_over(2) && updates > 0; i++) {
         Update u = nth_update(2, i);
         if (!reference_legal(marks, u) || (u.kind == 'E' && h->steps == 2)) continue;
-        history_add(h, u);
-        give_every(h, updates - 1);
-        history_drop(h);
+        for (size_t k = 0; k < (u.kind == 'E' ? 2 : 1); k++) {
+            u.key = short_keys[k];
+            history_add(h, u);
+            give_every(h, updates - 1);
+            history_drop(h);
+        }
     }
 }
 
@@ -132,6 +146,12 @@ static size_t digit(size_t *number, size_t base)
     size_t x = *number % base;
     *number /= base;
     return x;
+}
+
+static void read_step(Short *x, size_t p, size_t *number)
+{
+    x->to[p] = (uint16_t)digit(number, 2), x->from[p] = (uint16_t)digit(number, 2);
+    x->key[p] = short_keys[digit(number, SHORT_KEYS)];
 }
 
 static void group_definition(void)
@@ -146,9 +166,9 @@ static void group_definition(void)
         Short x = {0};
         x.status[1] = (uint8_t)digit(&k, 5), x.status[0] = (uint8_t)digit(&k, 5);
         x.marks[1] = (uint8_t)digit(&k, 8), x.marks[0] = (uint8_t)digit(&k, 8);
-        if (k > 4) k -= 5, x.to[1] = (uint16_t)digit(&k, 2), x.from[1] = (uint16_t)digit(&k, 2), x.steps = 2, k++;
-        if (k > 0) k -= 1, x.to[0] = (uint16_t)digit(&k, 2), x.from[0] = (uint16_t)digit(&k, 2), x.steps += !x.steps;
-        Tables t = {.n = 2, .steps = x.steps, .marks = x.marks, .status = x.status, .from = x.from, .to = x.to};
+        if (k > SHORT_STEPS) k -= 1 + SHORT_STEPS, read_step(&x, 1, &k), x.steps = 2, k++;
+        if (k > 0) k -= 1, read_step(&x, 0, &k), x.steps += !x.steps;
+        Tables t = {.n = 2, .steps = x.steps, .marks = x.marks, .status = x.status, .from = x.from, .to = x.to, .key = x.key};
         check(CHECK_DEFINITION, short_number(&x) == i && fits_history(&t) == given[i]);
     }
 }
@@ -159,17 +179,17 @@ static void put(Lent *l, Name k, size_t i, size_t x) { table_set(&l->table[k], i
 
 static void group_one_state(void)
 {
-    static const size_t successors[] = {0, 1, 65535};
+    static const size_t successors[] = {0, 1, 65535}, keys[] = {MOST_KEY, MOST_KEY + 1, 255};
     shown_history = NULL;
     lent_size(&lent_a, 1, 1, 0);
-    for (size_t i = 0; i < 6 * 9 * 2 * 2 * 2 * 3 * 81 * 2 && !failed; i++) {
+    for (size_t i = 0; i < 6 * 9 * 2 * 2 * 2 * 3 * 81 * 2 * 3 && !failed; i++) {
         size_t k = i;
         put(&lent_a, STATUS, 0, digit(&k, 6)), put(&lent_a, MARKS, 0, digit(&k, 9));
         put(&lent_a, FROM, 0, digit(&k, 2)), put(&lent_a, TO, 0, digit(&k, 2)), lent_a.steps[1] = digit(&k, 2);
         put(&lent_a, SUCCESSOR, 0, successors[digit(&k, 3)]);
         put(&lent_a, IN_HEAD, 0, digit(&k, 3)), put(&lent_a, OUT_HEAD, 0, digit(&k, 3));
         put(&lent_a, IN_NEXT, 0, digit(&k, 3)), put(&lent_a, OUT_NEXT, 0, digit(&k, 3));
-        put(&lent_a, VISITED, 0, digit(&k, 2));
+        put(&lent_a, VISITED, 0, digit(&k, 2)), put(&lent_a, KEY, 0, keys[digit(&k, 3)]);
         fit(&lent_a);
     }
 }
@@ -200,6 +220,7 @@ static void two_states(const uint8_t *status)
     for (size_t i = 0; i < 3 * 81 * 64 * 16 && !failed; i++) {
         size_t k = i;
         for (size_t p = 0; p < 2; p++) put(&lent_a, FROM, p, digit(&k, 3)), put(&lent_a, TO, p, digit(&k, 3));
+        for (size_t p = 0; p < 2; p++) put(&lent_a, KEY, p, one_in(16) ? MOST_KEY + 1 : some_key());
         lent_a.steps[1] = digit(&k, 3);
         if (lent_a.steps[1] < 2 && (words(&lent_a, FROM)[1] || words(&lent_a, TO)[1])) continue;
         if (lent_a.steps[1] < 1 && (words(&lent_a, FROM)[0] || words(&lent_a, TO)[0])) continue;
@@ -235,6 +256,7 @@ static Run checked = {.lent = &lent_a, .send = send_and_check};
 
 static void group_lists(void)
 {
+    every_keyed_list(&checked, 2, 2, by_scale(3, 3, 4), 2);
     every_list(&checked, 2, 2, 5, 3);
     every_list(&checked, 2, 3, by_scale(5, 6, 7), 2);
     every_list(&checked, 3, 2, 4, 4);
@@ -248,8 +270,10 @@ static int alone_started;
 static void scramble_free(Lent *l)
 {
     for (size_t s = 0; s < l->n; s++) words(l, QUEUE)[s] = (uint16_t)random_word();
-    for (size_t p = l->steps[1]; p < l->limit; p++)
+    for (size_t p = l->steps[1]; p < l->limit; p++) {
         words(l, IN_NEXT)[p] = (uint16_t)random_word(), words(l, OUT_NEXT)[p] = (uint16_t)random_word();
+        words(l, FROM)[p] = (uint16_t)random_word(), words(l, TO)[p] = (uint16_t)random_word(), bytes(l, KEY)[p] = (uint8_t)random_word();
+    }
 }
 
 // Whether the first entries are the same in both lent tables.
@@ -265,7 +289,8 @@ static void send_to_both(Run *r, Update u)
     uint32_t answer = run_update(r, u), steps = (uint32_t)r->lent->steps[1];
     check(CHECK_GOES_ON, answer == run_update(&alone, u) && steps == lent_b.steps[1]);
     check(CHECK_GOES_ON, answer > RADVOINIS_REFUSED || same_entries(NEWS, answer));
-    check(CHECK_GOES_ON, same_entries(STATUS, n) && same_entries(MARKS, n) && same_entries(FROM, steps) && same_entries(TO, steps));
+    check(CHECK_GOES_ON, same_entries(STATUS, n) && same_entries(MARKS, n));
+    check(CHECK_GOES_ON, same_entries(FROM, steps) && same_entries(TO, steps) && same_entries(KEY, steps));
     for (size_t i = below(3); i > 0; i--) check(CHECK_RUN_FITS, fit(r->lent));
     if (one_in(4)) scramble_free(r->lent);
 }
@@ -316,13 +341,20 @@ static void damage_table(Lent *l, Name k, size_t values)
     }
 }
 
+// The least values, which an entry is damaged by: past those that it can have, or all of a byte.
+static size_t small_values(const Lent *l, Name k, size_t all_bytes)
+{
+    if (lent_width(k) > 1) return (l->n > l->limit ? l->n : l->limit) + 3;
+    return all_bytes ? 256 : k == KEY ? MOST_KEY + 3 : 10;
+}
+
 static void send_and_damage(Run *r, Update u)
 {
     Lent *l = r->lent;
     size_t all_bytes = one_in(16);
     send_and_check(r, u);
     for (Name k = 0; k < TABLES && !failed; k++)
-        if (k != NEWS) damage_table(l, k, k > MARKS ? (l->n > l->limit ? l->n : l->limit) + 3 : all_bytes ? 256 : 10);
+        if (k != NEWS) damage_table(l, k, small_values(l, k, all_bytes));
 }
 
 static Run damaged = {.lent = &lent_a, .send = send_and_damage};
@@ -339,6 +371,42 @@ static void group_every_damage_later(void)
         progress(i, rounds(200));
         mixed_run(&damaged, 1 + below(8), 1 + below(12), 10 + below(10));
     }
+}
+
+// ---- keys
+
+static void damage_key(Lent *l, size_t p)
+{
+    static const size_t above[] = {MOST_KEY + 1, MOST_KEY + 2, 63, 64, 127, 128, 254, 255};
+    size_t was = table_get(&l->table[KEY], p), i = below(sizeof above / sizeof *above);
+    for (size_t k = 0; k < 2; k++) {
+        put(l, KEY, p, k ? above[i] : some_key());
+        check(CHECK_KEYS, fit(l) == (k == 0 || p >= l->steps[1]));
+        memset(words(l, VISITED), 0, 2 * l->n);
+    }
+    put(l, KEY, p, was);
+}
+
+// Every place of a short list; of a long one the first and the last that is listed, and any.
+static void send_and_damage_keys(Run *r, Update u)
+{
+    Lent *l = r->lent;
+    run_update(r, u);
+    if (l->limit > 40 && !one_in(l->n)) return;
+    for (size_t p = 0; l->limit <= 40 && p < l->limit && !failed; p++) damage_key(l, p);
+    size_t steps = l->steps[1], places[] = {0, steps ? steps - 1 : 0, steps < l->limit ? steps : 0, below(l->limit)};
+    for (size_t i = 0; l->limit > 40 && i < 4 && !failed; i++) damage_key(l, places[i]);
+}
+
+static Run keys_damaged = {.lent = &lent_a, .send = send_and_damage_keys};
+
+static void group_keys(void)
+{
+    for (size_t i = 0; i < rounds(200) && !failed; i++) {
+        progress(i, rounds(200));
+        small_run(&keys_damaged, i);
+    }
+    for (size_t i = 0; i < rounds(6) && !failed; i++) large_run(&keys_damaged, i, 2048 - below(1000), 8192 - below(3));
 }
 
 // ---- random damages, of one entry or of some that belong together
@@ -360,6 +428,7 @@ static size_t likely_entry(const Lent *l, Name k, size_t i)
     case MARKS: return bytes(l, MARKS)[i] ^ 1u << below(3);
     case FROM:
     case TO: return below(l->n);
+    case KEY: return below(MOST_KEY + 3);
     case SUCCESSOR: return one_in(4) ? NO_SUCCESSOR : listed_step_out_of(l, i);
     case QUEUE: return below(l->n);
     case VISITED: return below(2);
@@ -385,12 +454,16 @@ static void damage_any(Lent *l)
 // A step becomes another, or two change places, and the lists with them.
 static void damage_step(Lent *l)
 {
-    size_t p = below(l->steps[1]), q = below(l->steps[1]), from = words(l, FROM)[p], to = words(l, TO)[p];
+    static const Name columns[] = {FROM, TO, KEY};
+    size_t p = below(l->steps[1]), q = below(l->steps[1]);
     if (one_in(2)) {
-        damage(l, one_in(2) ? FROM : TO, p);
+        damage(l, columns[below(3)], p);
     } else {
-        put(l, FROM, p, words(l, FROM)[q]), put(l, TO, p, words(l, TO)[q]);
-        put(l, FROM, q, from), put(l, TO, q, to);
+        for (size_t i = 0; i < 3; i++) {
+            const Table *t = &l->table[columns[i]];
+            size_t x = table_get(t, p), y = table_get(t, q);
+            put(l, columns[i], p, y), put(l, columns[i], q, x);
+        }
     }
     write_work(l);
 }
@@ -399,8 +472,12 @@ static void damage_step(Lent *l)
 static void damage_length(Lent *l)
 {
     size_t steps = l->steps[1];
-    if (steps < l->limit && one_in(2)) put(l, FROM, steps, below(l->n)), put(l, TO, steps, below(l->n)), l->steps[1]++;
-    else if (steps > 0) l->steps[1]--;
+    if (steps < l->limit && one_in(2)) {
+        put(l, FROM, steps, below(l->n)), put(l, TO, steps, below(l->n)), put(l, KEY, steps, below(MOST_KEY + 3));
+        l->steps[1]++;
+    } else if (steps > 0) {
+        l->steps[1]--;
+    }
     if (one_in(2)) write_work(l);
 }
 
@@ -483,7 +560,10 @@ static void write_steps(Lent *l, const History *h)
 {
     size_t p = 0;
     for (size_t i = 0; i < h->count; i++)
-        if (h->accepted[i].kind == 'E') put(l, FROM, p, h->accepted[i].first), put(l, TO, p++, h->accepted[i].second);
+        if (h->accepted[i].kind == 'E') {
+            put(l, FROM, p, h->accepted[i].first), put(l, TO, p, h->accepted[i].second);
+            put(l, KEY, p++, h->accepted[i].key);
+        }
     l->steps[1] = p;
 }
 
@@ -521,7 +601,8 @@ static void neighbour(History *h, const History *of)
     for (size_t i = 0; i < of->count; i++) {
         Update u = of->accepted[i];
         if (i == other && how == 1 && (u.kind != 'E' || of->steps < of->limit)) history_add(h, u);
-        if (i == other && how == 2) *(one_in(2) ? &u.first : &u.second) = below(of->n);
+        if (i == other && how == 2 && one_in(3)) u.key = below(MOST_KEY + 2);
+        else if (i == other && how == 2) *(one_in(2) ? &u.first : &u.second) = below(of->n);
         if (i != other || how > 0) history_add(h, u);
     }
 }
@@ -620,6 +701,7 @@ static const Group groups[] = {
     {"random runs up to 2,048 states and 8,192 steps", group_large_runs},
     {"every damage of one entry, after every short list", group_every_damage},
     {"every damage of one entry, random runs", group_every_damage_later},
+    {"keys above 31, in the list and behind it", group_keys},
     {"random damages, up to 12 states", group_damage_small},
     {"random damages, up to 2,048 states", group_damage_large},
     {"tables written for a history, mixed with another's", group_written},

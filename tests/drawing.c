@@ -1,11 +1,11 @@
 // The picture by its format: a line for each state that has a status from 1 to 4, with a double border where it is terminal, then every
-// listed step in order, bold where it is its source's successor.
+// listed step in order, labelled with its key, bold where it is its source's successor.
 #include "drawing.h"
 #include "fitting.h"
 #include <string.h>
 
 static const char opening[] = "digraph verdicts {\n  rankdir=LR;\n  node [style=filled];\n";
-static const char bold_end[] = " [style=bold];";
+static const char bold_end[] = ", style=bold];";
 
 enum { OPENING_LINES = 3 };
 
@@ -24,7 +24,7 @@ void drawing_write(const Reading *r, const uint8_t *bold, FILE *picture)
     for (size_t s = 0; s < MOST_STATES; s++) write_state(s, r->status[s], r->marks[s], picture);
     for (size_t i = 0; i < r->history.count; i++) {
         Update u = r->history.accepted[i];
-        if (u.kind == 'E') fprintf(picture, "  %zu -> %zu%s\n", u.first, u.second, bold[p++] ? bold_end : ";");
+        if (u.kind == 'E') fprintf(picture, "  %zu -> %zu [label=\"%zu\"%s\n", u.first, u.second, u.key, bold[p++] ? bold_end : "];");
     }
     fprintf(picture, "}\n");
 }

@@ -62,27 +62,39 @@ static void hold_record(size_t piece)
     hold_picture(output);
 }
 
-// ---- samples, in which there is one choice of successors; the last has terminal states, which are live, open and closed in their marks,
-// beside live states that are not terminal and refused marks
+// ---- samples, in which there is one choice of successors; the fourth has terminal states, which are live, open and closed in their marks,
+// beside live states that are not terminal and refused marks; the last ones have steps that differ only in key, and keys that are refused
 
 typedef struct {
+    Form form;
     const char *lines, *picture;    // below the names line, and between opening and end
 } Sample;
 
 static const Sample samples[] = {
-    {"", ""},
-    {"E 0 1\nE 1 0\nE 1 2\nC 0 -\nC 1 -\n",
+    {WITHOUT_KEYS, "", ""},
+    {WITHOUT_KEYS, "E 0 1\nE 1 0\nE 1 2\nC 0 -\nC 1 -\n",
      "  0 [label=\"0 unknown\", fillcolor=\"#ffe08a\"];\n  1 [label=\"1 unknown\", fillcolor=\"#ffe08a\"];\n"
-     "  2 [label=\"2 open\", fillcolor=\"#ffffff\"];\n  0 -> 1 [style=bold];\n  1 -> 0;\n  1 -> 2 [style=bold];\n"},
-    {"E 7 7\nE 7 12\nT 12 -\nC 12 -\nE 12 7\nC 2047 -\nE 2047 0\nE 0 2047\nX\n",
+     "  2 [label=\"2 open\", fillcolor=\"#ffffff\"];\n  0 -> 1 [label=\"0\", style=bold];\n"
+     "  1 -> 0 [label=\"0\"];\n  1 -> 2 [label=\"0\", style=bold];\n"},
+    {WITHOUT_KEYS, "E 7 7\nE 7 12\nT 12 -\nC 12 -\nE 12 7\nC 2047 -\nE 2047 0\nE 0 2047\nX\n",
      "  0 [label=\"0 open\", fillcolor=\"#ffffff\"];\n  7 [label=\"7 live\", fillcolor=\"#a8dba0\"];\n"
      "  12 [label=\"12 live\", fillcolor=\"#a8dba0\", peripheries=2];\n  2047 [label=\"2047 dead\", fillcolor=\"#f0a8a0\"];\n"
-     "  7 -> 7;\n  7 -> 12;\n  0 -> 2047;\n"},
-    {"E 0 1\nT 1 -\nE 1 2\nC 1 -\nT 1 -\nT 3 -\nT 3 -\nE 4 3\nC 4 -\nT 4 -\nC 5 -\nT 5 -\nE 6 2\nC 6 -\nT 6 -\nT 2048 -\n",
+     "  7 -> 7 [label=\"0\"];\n  7 -> 12 [label=\"0\"];\n  0 -> 2047 [label=\"0\"];\n"},
+    {WITHOUT_KEYS, "E 0 1\nT 1 -\nE 1 2\nC 1 -\nT 1 -\nT 3 -\nT 3 -\nE 4 3\nC 4 -\nT 4 -\nC 5 -\nT 5 -\nE 6 2\nC 6 -\nT 6 -\nT 2048 -\n",
      "  0 [label=\"0 live\", fillcolor=\"#a8dba0\"];\n  1 [label=\"1 live\", fillcolor=\"#a8dba0\", peripheries=2];\n"
      "  2 [label=\"2 open\", fillcolor=\"#ffffff\"];\n  3 [label=\"3 live\", fillcolor=\"#a8dba0\", peripheries=2];\n"
      "  4 [label=\"4 live\", fillcolor=\"#a8dba0\"];\n  5 [label=\"5 dead\", fillcolor=\"#f0a8a0\"];\n"
-     "  6 [label=\"6 unknown\", fillcolor=\"#ffe08a\"];\n  0 -> 1;\n  1 -> 2;\n  4 -> 3;\n  6 -> 2 [style=bold];\n"},
+     "  6 [label=\"6 unknown\", fillcolor=\"#ffe08a\"];\n  0 -> 1 [label=\"0\"];\n  1 -> 2 [label=\"0\"];\n  4 -> 3 [label=\"0\"];\n"
+     "  6 -> 2 [label=\"0\", style=bold];\n"},
+    {WITH_KEYS, "", ""},
+    {WITH_KEYS, "E 0 1 0\nE 0 1 7\nE 0 1 31\nE 0 1 32\nE 0 1\nE 2 0 9\nE 1 1 10\nC 2 - -\nE 2 1 255\nT 0 -\nC 1 - -\n",
+     "  0 [label=\"0 open\", fillcolor=\"#ffffff\"];\n  1 [label=\"1 dead\", fillcolor=\"#f0a8a0\"];\n"
+     "  2 [label=\"2 unknown\", fillcolor=\"#ffe08a\"];\n  0 -> 1 [label=\"0\"];\n  0 -> 1 [label=\"7\"];\n  0 -> 1 [label=\"31\"];\n"
+     "  2 -> 0 [label=\"9\", style=bold];\n  1 -> 1 [label=\"10\"];\n"},
+    {WITH_KEYS, "E 2047 2046 30\nC 2047 - -\nC 2046 - -\nE 2046 0 30\nE 5 2047 31\nE 5 2047 31\nT 5 - -\n",
+     "  5 [label=\"5 live\", fillcolor=\"#a8dba0\", peripheries=2];\n  2046 [label=\"2046 dead\", fillcolor=\"#f0a8a0\"];\n"
+     "  2047 [label=\"2047 dead\", fillcolor=\"#f0a8a0\"];\n  2047 -> 2046 [label=\"30\"];\n  5 -> 2047 [label=\"31\"];\n"
+     "  5 -> 2047 [label=\"31\"];\n"},
 };
 
 static void group_samples(void)
@@ -90,7 +102,7 @@ static void group_samples(void)
     for (size_t i = 0; i < 2 * (sizeof samples / sizeof *samples) && !failed; i++) {
         char picture[1024];
         snprintf(picture, sizeof picture, "digraph verdicts {\n  rankdir=LR;\n  node [style=filled];\n%s}\n", samples[i / 2].picture);
-        start_record();
+        start_record(samples[i / 2].form);
         add("%s", samples[i / 2].lines);
         record_length -= i % 2;
         hold_record(0);
@@ -114,10 +126,12 @@ static void every_record(size_t numbers, size_t lines)
 
 static void group_short(void)
 {
-    start_record();
-    every_record(2, by_scale(2, 3, 4));
-    start_record();
-    every_record(3, by_scale(2, 2, 3));
+    for (Form f = 0; f < FORMS; f++) {
+        start_record(f);
+        every_record(2, by_scale(2, 3, 4));
+        start_record(f);
+        every_record(3, by_scale(2, 2, 3));
+    }
 }
 
 // ---- what explorers send, cut anywhere
@@ -134,7 +148,8 @@ static Run explorer = {.lent = &lent, .send = send_line};
 
 static void hold_cut(void)
 {
-    if (!one_in(4)) record_length = NAMES + below(record_length - NAMES + 1);
+    size_t names = strlen(names_line[form]);
+    if (!one_in(4)) record_length = names + below(record_length - names + 1);
     hold_record(0);
 }
 
@@ -142,7 +157,7 @@ static void group_explored(void)
 {
     for (size_t i = 0; i < rounds(600) && !failed; i++) {
         progress(i, rounds(600));
-        start_record();
+        start_record(some_form());
         small_run(&explorer, i);
         hold_cut();
     }
@@ -153,7 +168,7 @@ static void group_explored_large(void)
 {
     for (size_t i = 0; i < rounds(40) && !failed; i++) {
         progress(i, rounds(40));
-        start_record();
+        start_record(some_form());
         large_run(&explorer, i, one_in(3) ? 2048 - below(3) : 13 + below(300), 2048);
         hold_cut();
     }
@@ -162,12 +177,12 @@ static void group_explored_large(void)
 // As many states and steps as there can be, in a ring of which one state is left open.
 static void group_longest_way(void)
 {
-    for (size_t backwards = 0; backwards < 2; backwards++) {
-        start_record();
+    for (size_t how = 0; how < 4; how++) {
+        start_record((Form)(how / 2));
         for (size_t i = 0; i < 2048; i++) {
-            size_t s = backwards ? 2047 - i : i;
-            add("E %zu %zu\n", s, (s + 1) % 2048);
-            if (s < 2047) add("C %zu -\n", s);
+            size_t s = how % 2 ? 2047 - i : i;
+            add_update((Update){'E', s, (s + 1) % 2048, MOST_KEY - i % 2});
+            if (s < 2047) add_update((Update){'C', s, 0, 0});
         }
         hold_record(0);
     }
@@ -177,9 +192,11 @@ static void group_longest_way(void)
 // As many terminal states and steps as there can be.
 static void group_fullest(void)
 {
-    start_record();
-    for (size_t s = 0; s < 2048; s++) add("T %zu -\nE %zu %zu\n", s, s, 2047 - s);
-    hold_record(0);
+    for (Form f = 0; f < FORMS; f++) {
+        start_record(f);
+        for (size_t s = 0; s < 2048; s++) add_update((Update){'T', s, 0, 0}), add_update((Update){'E', s, 2047 - s, MOST_KEY});
+        hold_record(0);
+    }
 }
 
 // ---- the series of records

@@ -24,8 +24,9 @@ static Output run(Program p, Source from, Target to, const char *said)
 // A 10 and a 12: "Reading stops."
 void stopped_inputs(Program p, void (*hold)(Output output))
 {
-    static const char *const first[] = {"y", "", "kind from to ", "T 0 -"}, *const last[] = {"T 0 -", "", "E 1 2 "};
-    for (size_t i = 0; i < 8 && !failed; i++) {
+    static const char *const first[] = {"y", "", "kind from to ", "T 0 -", "kind from to ke", "kind from to key "};
+    static const char *const last[] = {"T 0 -", "", "E 1 2 "};
+    for (size_t i = 0; i < 12 && !failed; i++) {
         record_length = 0;
         for (size_t lines = i % 2 ? 200000 : 1; lines > 0; lines--) add("%s\n", first[i / 2]);
         hold(run(p, FROM_HELD_PIPE, TO_MEMORY, ""));
@@ -41,14 +42,16 @@ void stopped_inputs(Program p, void (*hold)(Output output))
 void failing_inputs(Program p, void (*hold)(Output output))
 {
     static const char *const before[] = {"", "kind from", "kind from to", "kind from to\n", "kind from to\nE 0 1\nC 0 -\nC 1 -",
-                                         "kind from to\nE 0 1\nC 0 -\nC 1 -\n"};
+                                         "kind from to\nE 0 1\nC 0 -\nC 1 -\n", "kind from to ke", "kind from to key", "kind from to key\n",
+                                         "kind from to key\nE 0 1 7\nC 0 - -\nC 1 - -", "kind from to key\nE 0 1 7\nC 0 - -\nC 1 - -\n"};
     record_length = 0;
     hold(run(p, FROM_FOLDER, TO_MEMORY, cannot_read[p]));
     hold(run(p, FROM_NOTHING, TO_MEMORY, cannot_read[p]));
-    for (size_t i = 0; i < 12 && !failed; i++) {
+    for (size_t i = 0; i < 2 * (sizeof before / sizeof *before) && !failed; i++) {
+        const char *text = before[i / 2];
         record_length = 0;
-        add("%s", before[i / 2]);
-        if (i % 2 && i > 6) add_run('x', 200000), add("\nE 2 3\nC 2 -");
+        add("%s", text);
+        if (i % 2 && strchr(text, '\n')) add_run('x', 200000), add(strstr(text, "key") ? "\nE 2 3 8\nC 2 - -" : "\nE 2 3\nC 2 -");
         hold(run(p, FROM_FAILING_SOCKET, TO_MEMORY, cannot_read[p]));
     }
     record_length = 0;
@@ -60,8 +63,8 @@ void failing_inputs(Program p, void (*hold)(Output output))
 void failing_outputs(Program p)
 {
     for (size_t i = 0; i < 4 && !failed; i++) {
-        start_record();
-        for (size_t s = 0; s < (i / 2 ? 2000 : 2); s++) add("E %zu %zu\n\n\n\n\n\n\n\n\n", s, s + 1);
+        start_record(some_form());
+        for (size_t s = 0; s < (i / 2 ? 2000 : 2); s++) add_update((Update){'E', s, s + 1, s % 32}), add_run('\n', 8);
         run(p, FROM_FILE, i % 2 ? TO_FULL_DEVICE : TO_NOTHING, cannot_write[p]);
     }
 }
@@ -74,8 +77,8 @@ static char *usage;
 
 static Output run_with(Program p, const char *const *arguments, Source from, Target to)
 {
-    start_record();
-    add("E 0 1\nT 1 -\nC 0 -\n");
+    start_record(some_form());
+    add_lines("E 0 1\nT 1 -\nC 0 -\n");
     Output output = program_run_with(p, arguments, from, record, from == FROM_HELD_PIPE ? 0 : record_length, PIECE_MOST, to);
     check(CHECK_ENDED, output.ended);
     check(CHECK_UNREAD, output.taken == 0);

@@ -2,7 +2,7 @@
 # Plants faults in the calls and the programs in plain C (the engine of bench/baseline.c; tests/calls.c, tests/lister.c and
 # tests/drawer.c over the naive definitions; the short calls of c/tables.c), one at a time, and runs the suite that must catch them on
 # each, shortened: it must, and each suite must pass what has no fault. With names of suites as arguments, those faults alone; with
-# --few, some fifteen of all suites. All take about fifteen minutes, the few one. The last line is 'N passed, M failed'.
+# --few, nineteen of all suites. All take about fifteen minutes, the few one. The last line is 'N passed, M failed'.
 set -u
 cd "$(dirname "$0")/.." || exit 2
 . tests/suites.sh
@@ -133,6 +133,12 @@ fault "no terminal mark" 's/    e->marks\[u\] |= TERMINAL;//'
 fault "no closed mark" 's/    e->marks\[u\] |= CLOSED;//'
 fault "a mark clears the bits above 4" 's/e->marks\[s\] |= NAMED;/e->marks[s] = (e->marks[s] \& 7) | NAMED;/'
 fault "a mark byte above 7 is read as closed" 's/e->marks\[u\] & CLOSED/e->marks[u] >= CLOSED/'
+fault "no key is kept" 's/    e->key\[p\] = (uint8_t)key;//'
+few=1 fault "the key of the step before is kept" 's/    e->key\[p\] = (uint8_t)key;/    e->key[p] = p > 0 ? e->key[p - 1] : (uint8_t)key;/'
+fault "a key is kept in four bits" 's/    e->key\[p\] = (uint8_t)key;/    e->key[p] = key % 16;/'
+fault "a key is kept one place too far" 's/    e->key\[p\] = (uint8_t)key;/    e->key[p + 1 < e->limit ? p + 1 : p] = (uint8_t)key;/'
+fault "the place behind the list is cleared" 's/    e->key\[p\] = (uint8_t)key;/&\n    if (p + 1 < e->limit) e->key[p + 1] = 0;/'
+fault "a step equal but for its key takes no place" "$(within step 's/    size_t p = e->steps++;/    if (e->steps > 0 \&\& e->from[e->steps - 1] == u \&\& e->to[e->steps - 1] == v \&\& e->key[e->steps - 1] != key) return 0; size_t p = e->steps++;/')"
 fault "a terminal mark counts as a step" 's/\*steps = e.steps;/*steps = e.steps + (kind == 84 \&\& answer < REFUSED);/'
 fault "a step does not count" 's/    \*steps = e.steps;//'
 fault "writes behind the queue" "$(within spread 's/    Span span =/    e->queue[e->n] = 0; Span span =/')"
@@ -158,6 +164,18 @@ fault "a second close is told by the status" "$(within close_state 's/    if (e-
 few=1 fault "8 still given" "$(within refused_source 's/? 6 : 0/? 6 : e->status[u] == DEAD ? 8 : 0/')"
 fault "6 by the status" "$(within refused_source 's/e->marks\[u\] & CLOSED/e->marks[u] \& CLOSED || e->status[u] == DEAD/')"
 fault "5 for the second state of a terminal mark" "s/kind == 'T' ? refused_terminal(e, first)/kind == 'T' ? (second >= e->n ? 5 : refused_terminal(e, first))/"
+few=1 fault "a key is cut to a byte before it is tested" 's/key > MAX_KEY/(uint8_t)key > MAX_KEY/'
+fault "keys in sixteen bits" 's/key > MAX_KEY/(uint16_t)key > MAX_KEY/'
+fault "keys in thirty-two bits" 's/key > MAX_KEY/(uint32_t)key > MAX_KEY/'
+fault "32 is a key" 's/key > MAX_KEY/key > MAX_KEY + 1/'
+fault "31 is no key" 's/key > MAX_KEY/key >= MAX_KEY/'
+fault "no 14" 's/    if (key > MAX_KEY) return 14;//'
+fault "a refused key is kept" 's/    if (key > MAX_KEY) return 14;/    if (key > MAX_KEY) return e->steps < e->limit ? e->key[e->steps] = (uint8_t)key : 0, 14;/'
+fault "14 before 5" "$(within refused_step '/return 14;/d; s/    if (u >= e->n || v >= e->n) return 5;/    if (key > MAX_KEY) return 14;\n&/')"
+fault "6 before 14" "$(within refused_step '/return 14;/d; s/    if (number) return number;/&\n    if (key > MAX_KEY) return 14;/')"
+fault "9 before 14" "$(within refused_step 's/    if (key > MAX_KEY) return 14;/    if (e->steps == e->limit \&\& !(e->marks[u] \& CLOSED)) return 9;\n&/')"
+fault "14 for a terminal mark" "s/kind == 'T' ? refused_terminal(e, first)/kind == 'T' ? (first < e->n \&\& key > MAX_KEY ? 14 : refused_terminal(e, first))/"
+fault "14 for a close" "s/: refused_close(e, first)/: first < e->n \&\& key > MAX_KEY ? 14 : refused_close(e, first)/"
 fault "n itself is a state" 's/u >= e->n || v >= e->n/u > e->n || v > e->n/'
 fault "states in sixteen bits" 's/u >= e->n || v >= e->n/(uint16_t)u >= e->n || (uint16_t)v >= e->n/'
 fault "states in thirty-two bits" "$(within refused_close 's/return u >= e->n/return (uint32_t)u >= e->n/')"
@@ -174,7 +192,7 @@ fault "4 before 3" 's/^    if (status_len < n .*/    if (*steps > limit) return 
 for table in status marks successor news in_head out_head queue visited; do
     fault "$table too short by one" "s/${table}_len < n\b/${table}_len + 1 < n/"
 done
-for table in from to in_next out_next; do
+for table in from to key in_next out_next; do
     fault "$table too short by one" "s/\b${table}_len < limit/${table}_len + 1 < limit/"
 done
 fault "a table may not be just long enough" 's/visited_len < n/visited_len <= n/'
@@ -223,7 +241,14 @@ fitting_fault "the steps' list entries are not looked at" 's/ || next\[p\] != la
 fitting_fault "a free list entry does not fit" 's/    return memcmp(last, head, 2 \* t->n) == 0;/    if (next == t->in_next \&\& next[t->steps] > 8192) return 0;\n&/'
 fitting_fault "visited marks are not looked at" 's/ && fits_visited(t)//'
 fitting_fault "a step to a state out of range fits" 's/t->from\[p\] >= t->n || t->to\[p\] >= t->n/t->from[p] >= t->n || t->to[p] > t->n/; s/if (ends\[p\] >= t->n || next/if (ends[p] >= t->n) continue; if (next/'
-fitting_fault "a repeated step does not fit" "$(within history_of 's/        history_add(h, (Update){.E.*/        if (p > 0 \&\& t->from[p] == t->from[p - 1] \&\& t->to[p] == t->to[p - 1]) return 0;\n&/')"
+fitting_fault "a repeated step does not fit" "$(within history_of 's/        history_add(h, (Update){.E.*/        if (p > 0 \&\& t->from[p] == t->from[p - 1] \&\& t->to[p] == t->to[p - 1] \&\& t->key[p] == t->key[p - 1]) return 0;\n&/')"
+fitting_fault "a step equal but for its key does not fit" "$(within history_of 's/        history_add(h, (Update){.E.*/        if (p > 0 \&\& t->from[p] == t->from[p - 1] \&\& t->to[p] == t->to[p - 1] \&\& t->key[p] != t->key[p - 1]) return 0;\n&/')"
+fitting_fault "keys are not looked at" 's/ || t->key\[p\] > MOST_KEY//'
+fitting_fault "a key of 32 fits" 's/t->key\[p\] > MOST_KEY/t->key[p] > MOST_KEY + 1/'
+fitting_fault "a key of 31 does not fit" 's/t->key\[p\] > MOST_KEY/t->key[p] >= MOST_KEY/'
+fitting_fault "the last key is not looked at" 's/t->key\[p\] > MOST_KEY/(p + 1 < t->steps \&\& t->key[p] > MOST_KEY)/'
+fitting_fault "a key behind the list is looked at" "$(within fits_history 's/^    if (!history_of/    if (t->key[t->steps] > 250) return 0;\n&/')"
+fitting_fault "a key above 127 fits" 's/t->key\[p\] > MOST_KEY/(int8_t)t->key[p] > MOST_KEY/'
 
 # the table check: what it writes and refuses
 few=1 call_fault "a yes leaves a state visited" "$(within radvoinis_audit 's/visited\[s\] = yes ? 0 : 1/visited[s] = s > 0/')" damage
@@ -235,29 +260,44 @@ call_fault "4 before 3" "$(within radvoinis_audit 's/by_state && by_step)/(by_st
 for table in status marks successor in_head out_head queue visited; do
     call_fault "the check's $table too short by one" "$(within radvoinis_audit "s/${table}_len >= n\b/${table}_len + 1 >= n/")" damage
 done
-for table in from to in_next out_next; do
+for table in from to key in_next out_next; do
     call_fault "the check's $table too short by one" "$(within radvoinis_audit "s/\b${table}_len >= limit/${table}_len + 1 >= limit/")" damage
 done
 
 # records
-few=1 reading_fault "a leading zero is taken" "$(within update_of 's/    if (strlen(written)/    if (text[2] == 48 \&\& length > 5 \&\& text[3] >= 48) return (Update){text[0], first, second};\n&/')"
+few=1 reading_fault "a leading zero is taken" "$(within update_of 's/    if (strlen(written)/    if (text[2] == 48 \&\& length > 5 \&\& text[3] >= 48) return (Update){text[0], first, second, key};\n&/')"
 reading_fault "a carriage return is taken" "$(within update_of "s/    memcpy(text, line, length);/    if (length > 1 \&\& line[length - 1] == 13) length--;\n&/")"
 reading_fault "65,536 is taken" 's/first > 65535 || second > 65535/first > 65536 || second > 65536/'
 reading_fault "65,535 is not taken" 's/first > 65535 || second > 65535/first > 65534 || second > 65534/'
-reading_fault "a line is cut at 16 bytes" "$(within update_of 's/length == 0 || length > 16) return (Update){0};/length == 0) return (Update){0}; if (length > 16) length = 13;/')"
+reading_fault "65,536 is a key" 's/key > 65535/key > 65536/'
+reading_fault "65,535 is no key" 's/key > 65535/key > 65534/'
+reading_fault "a key of 32 is no update" 's/key > 65535/key > 31/'
+reading_fault "keys of two digits at most" 's/key > 65535/key > 99/'
+reading_fault "a leading zero of a key is taken" "$(within update_of 's/    if (strlen(written)/    if (keyed \&\& text[0] == 69 \&\& strstr(text + 5, " 0") \&\& text[length - 1] >= 48 \&\& text[length - 2] == 48) return (Update){text[0], first, second, key};\n&/')"
+reading_fault "a dash is a key" "$(within update_of 's/    if (strlen(written)/    if (keyed \&\& text[0] == 69 \&\& text[length - 1] == 45) written[strlen(written) - 1] = 45;\n&/')"
+reading_fault "a mark may have a key" "$(within update_of 's/    else if (keyed) strcat(written, " -");/    else if (keyed) sprintf(written + strlen(written), " %c", text[length - 1] >= 48 \&\& text[length - 1] < 58 ? text[length - 1] : 45);/')"
+reading_fault "a step may lack its key" "$(within update_of 's/    if (strlen(written)/    if (keyed \&\& length == strlen(written) - 2) written[length] = 0;\n&/')"
+reading_fault "a line without keys may have one" "$(within update_of 's/    if (!keyed) key = 0;/    if (!keyed \&\& key) keyed = 1;/')"
+reading_fault "the names line with keys gives none" "$(within reading_line 's/    Update u = .*/&\n    if (r->keyed) u.key = 0;/')"
+drawing_fault "the names line without keys gives the key 7" "$(within reading_line 's/    Update u = .*/&\n    if (!r->keyed) u.key = 7;/')" reading
+reading_fault "the names line with keys is not known" "$(within reading_line 's/int exact = r->keyed || /int exact = /')"
+reading_fault "the names line without keys is not known" "$(within reading_line 's/int exact = r->keyed || .*/int exact = r->keyed;/')"
+reading_fault "a line of 17 bytes is taken" "$(within update_of 's/text\[17\]/text[18]/; s/length > 16/length > 17/')"
+reading_fault "a line of 16 bytes is too long" "$(within update_of 's/length > 16/length > 15/')"
+reading_fault "a line is cut at 16 bytes" "$(within update_of 's/length == 0 || length > 16) return (Update){0};/length == 0) return (Update){0}; if (length > 16) length = keyed ? 16 : 13;/')"
 reading_fault "a line ends at a NUL" "$(within update_of 's/    if (strlen(written) != length || memcmp(written, line, length) != 0)/    if (strcmp(written, text) != 0)/')"
 reading_fault "blank lines are passed over" "$(within reading_line 's/    Update u = /    if (length == 0) return 1;\n&/')"
 listing_fault "blank lines are not counted" "$(within reading_line 's/    Update u = /    if (length == 0) r->lines--;\n&/')"
 status_fault "the last line is lost without its newline: status" "$(within reading_read 's/        more = reading_line/        if (!end) break;\n&/')"
 status_fault "a last newline makes an empty line: status" "$(within reading_read 's/at < length) {/at <= length) {/')"
-reading_fault "the names line need only begin so" "$(within reading_line 's/length == strlen(names)/length >= strlen(names)/; s/memcmp(line, names, length)/memcmp(line, names, strlen(names))/')"
+reading_fault "the names line need only begin so" "$(within is_line 's/length == strlen(names)/length >= strlen(names)/; s/memcmp(line, names, length)/memcmp(line, names, strlen(names))/')"
 reading_fault "the names line is not looked at" "$(within reading_line 's/if (!exact) refuse(r, number, 10, listing);/exact = 1;/')"
 listing_fault "lines are listed after 10" "$(within reading_line 's/return exact;/return 1;/')"
 listing_fault "lines are listed after 12" "$(within reading_line 's/return 0;/return 1;/')"
 reading_fault "empty input is a record" "$(within reading_end 's/    if (r->lines == 0) refuse.*//')"
 reading_fault "12 a line early" "$(within reading_line 's/number == 65536/number == 65535/')"
 reading_fault "12 a line late" "$(within reading_line 's/number == 65536/number == 65537/')"
-reading_fault "11 before 12" "$(within reading_line 's/number == 65536/number == 65536 \&\& (length == 0 || update_of(line, length).kind)/')"
+reading_fault "11 before 12" "$(within reading_line 's/number == 65536/number == 65536 \&\& (length == 0 || update_of(line, length, r->keyed).kind)/')"
 reading_fault "7 still given to a line" "$(within reading_line 's/    refusal ? refuse/    if (!refusal \&\& reference_again(r->marks, u)) refusal = 7;\n&/')"
 listing_fault "a second close is listed as news" "$(within accept 's/    if (reference_again(r->marks, u)) return;/    if (listing \&\& reference_again(r->marks, u)) fprintf(listing, "%zu dead %zu\\n", number, u.first);\n&/')"
 reading_fault "a limit of 2,047 steps" "$(within reading_start 's/MOST_STATES, limit)/MOST_STATES, limit - 1)/')"
@@ -307,8 +347,14 @@ program_fault "the usage and then the record" "$(within standard_usage 's/    re
 
 # pictures
 few=1 drawing_fault "bold by the target" "$(within choose 's/first/other/g; s/second/first/g; s/other/second/g')" drawer
-drawing_fault "every step bold" 's/bold\[p++\] ? bold_end : ";"/bold_end/'
-drawing_fault "no step bold" 's/bold\[p++\] ? bold_end : ";"/";"/'
+drawing_fault "every step bold" 's/bold\[p++\] ? bold_end : "\];"/bold_end/'
+drawing_fault "no step bold" 's/bold\[p++\] ? bold_end : "\];"/"];"/'
+drawing_fault "no label for key 0" "$(within drawing_write 's/        if (u.kind == .E.) fprintf/        if (u.kind == 69 \&\& !u.key) fprintf(picture, "  %zu -> %zu%s\\n", u.first, u.second, bold[p++] ? " [style=bold];" : ";"); else if (u.kind == 69) fprintf/')"
+drawing_fault "a label without quotes" 's/label=\\"%zu\\"%s/label=%zu%s/'
+drawing_fault "keys above 15 drawn as 15" 's/u.second, u.key, bold/u.second, u.key > 15 ? 15 : u.key, bold/'
+drawing_fault "the key of the step before drawn" "$(within drawing_write 's/    size_t p = 0;/    size_t p = 0, last = 0;/; s/u.second, u.key, bold\[p++\] ? bold_end : "\];");/u.second, last, bold[p++] ? bold_end : "];"), last = u.key;/')"
+drawing_fault "steps that differ only in key drawn once" "$(within drawing_write 's/if (u.kind == .E.)/if (u.kind == 69 \&\& !(i > 0 \&\& r->history.accepted[i - 1].kind == 69 \&\& r->history.accepted[i - 1].first == u.first \&\& r->history.accepted[i - 1].second == u.second \&\& r->history.accepted[i - 1].key != u.key))/')"
+drawing_fault "a step with a refused key drawn" "$(within reading_line 's/    refusal ? refuse/    if (refusal == 14) history_add(\&r->history, u);\n&/')" reading
 drawing_fault "every step to a nearer state bold" "$(within choose 's/!near\[u.first\] && near\[u.second\]/!bold[p] \&\& near[u.second]/')" drawer
 drawing_fault "a ring of bold steps" "$(within choose 's/near\[u.second\])/(near[u.second] || r->status[u.second] == UNKNOWN))/')" drawer
 drawing_fault "bold steps out of live states" "$(within choose 's/r->status\[u.first\] == UNKNOWN/(r->status[u.first] == UNKNOWN || r->status[u.first] == LIVE)/')" drawer
@@ -331,8 +377,9 @@ drawing_fault "12 a line late: draw" "$(within reading_line 's/number == 65536/n
 drawing_fault "no picture after 10" 's/    drawing_write(/    if (reading.refused != 10) drawing_write(/' drawer
 
 # the writer
-few=1 writing_fault "closes before the steps" '/    for (size_t p = 0/{ h; d; }; /CLOSED, .C., record + length);/G'
-writing_fault "no names line" 's/sprintf(record, "kind from to.n")/0/'
+few=1 writing_fault "closes before the steps" '/    for (size_t p = 0/{ N; h; d; }; /CLOSED, .C., record + length);/G'
+writing_fault "no names line" 's/sprintf(record, "kind from to key.n")/0/'
+writing_fault "the names line without keys" 's/kind from to key/kind from to/'
 writing_fault "marks exchanged" 's/TERMINAL, .T./CLOSED, 84/'
 writing_fault "named states are marked" "$(within write_marked 's/marks\[s\] & mark/marks[s] >= mark/')"
 writing_fault "falling states" "$(within write_marked 's/size_t s = 0; s < n; s++/size_t s = n; s-- > 0;/')"
@@ -340,6 +387,12 @@ writing_fault "the last state is left out" "$(within write_marked 's/s < n/s + 1
 writing_fault "the last step is left out" 's/p < steps/p + 1 < steps/'
 writing_fault "the ends of a step exchanged" 's/(unsigned)from\[p\], (unsigned)to\[p\]/(unsigned)to[p], (unsigned)from[p]/'
 writing_fault "ends in fifteen bits" 's/(unsigned)to\[p\]/(unsigned)to[p] % 32768/'
+writing_fault "every key 0" 's/(unsigned)key\[p\]/0u/'
+writing_fault "the first key for every step" 's/(unsigned)key\[p\]/(unsigned)key[0]/'
+writing_fault "keys in five bits" 's/(unsigned)key\[p\]/(unsigned)key[p] % 32/'
+writing_fault "keys of two digits at most" 's/(unsigned)key\[p\]/(unsigned)(key[p] > 99 ? 99 : key[p])/'
+writing_fault "marks without a dash for the key" 's/%c %zu - -/%c %zu -/'
+writing_fault "steps equal but for the key are left out" "$(within writing_write 's/    for (size_t p = 0; p < steps; p++)/&\n        if (!(p > 0 \&\& from[p] == from[p - 1] \&\& to[p] == to[p - 1] \&\& key[p] != key[p - 1]))/')"
 writing_fault "no last newline" "$(within writing_write 's/    return length;/    return length - (steps > 0);/')"
 call_fault "an exact fit is refused" 's/buf_len - \*at < length/buf_len - *at <= length/' buffers
 few=1 call_fault "one byte short is taken" 's/buf_len - \*at < length/buf_len - *at + 1 < length/' buffers
@@ -349,14 +402,14 @@ call_fault "the place moves on a refusal" "$(within radvoinis_write 's/^    if (
 call_fault "written from the beginning" "$(within radvoinis_write 's/memcpy(buf + \*at/memcpy(buf/')" buffers
 call_fault "a byte behind the record" "$(within radvoinis_write 's/^    \*at += length;/    if (*at + length < buf_len) buf[*at + length] = 0;\n&/')" buffers
 call_fault "a byte before the record" "$(within radvoinis_write 's/^    \*at += length;/    if (*at) buf[*at - 1] = 10;\n&/')" buffers
-call_fault "13 before 4" "$(within radvoinis_write 's/^    int number/    if (n \&\& n <= 2048 \&\& limit \&\& limit <= 8192 \&\& marks_len >= n \&\& from_len >= limit \&\& to_len >= limit \&\& *at > buf_len) return RADVOINIS_REFUSED + 13;\n&/')" buffers
+call_fault "13 before 4" "$(within radvoinis_write 's/^    int number/    if (n \&\& n <= 2048 \&\& limit \&\& limit <= 8192 \&\& marks_len >= n \&\& from_len >= limit \&\& to_len >= limit \&\& key_len >= limit \&\& *at > buf_len) return RADVOINIS_REFUSED + 13;\n&/')" buffers
 call_fault "a mark is cleared" "$(within radvoinis_write 's/^    \*at += length;/&\n    ((uint8_t *)marks)[0] \&= 7;/')" buffers
 call_fault "the writer's marks too short by one" "$(within radvoinis_write 's/marks_len >= n/marks_len + 1 >= n/')" buffers
-for table in from to; do
+for table in from to key; do
     call_fault "the writer's $table too short by one" "$(within radvoinis_write "s/\b${table}_len >= limit/${table}_len + 1 >= limit/")" buffers
 done
-fault "what was written is not read: status" "$(within reading_line 's/    Update u = update_of(line, length);/&\n    if (u.kind == 67 \&\& number > 4) return 1;/')" library/reading.c buffers
-fault "what was written is not read: listing" "$(within reading_line 's/    Update u = update_of(line, length);/&\n    if (u.kind == 67 \&\& number > 4) return 1;/')" lister/reading.c buffers
+fault "what was written is not read: status" "$(within reading_line 's/    Update u = update_of(line, length, r->keyed);/&\n    if (u.kind == 67 \&\& number > 4) return 1;/')" library/reading.c buffers
+fault "what was written is not read: listing" "$(within reading_line 's/    Update u = update_of(line, length, r->keyed);/&\n    if (u.kind == 67 \&\& number > 4) return 1;/')" lister/reading.c buffers
 
 # the short calls
 short_fault "one byte too few" 's/ + 1;/;/'
@@ -374,9 +427,16 @@ short_fault "a limit's table for each state" 's/t->out_next = take(&at, limit)/t
 short_fault "the steps are not begun anew" 's/    t->steps = 0;//'
 short_fault "visited marks are left" "$(within radvoinis_tables_fresh 's/^    return 0;/    t->visited[0] = 1;\n&/')"
 short_fault "no successors are taken for the first step" 's/    memset(t->successor, 0xff.*//'
-short_fault "memory behind the tables is cleared" 's/t->marks + n - /t->marks + n + 1 - /'
-few=1 short_fault "a close sent for a terminal mark" "s/send(t, 'T', state, 0)/send(t, 'C', state, 0)/"
-short_fault "the ends of a step exchanged" "s/send(t, 'E', from, to)/send(t, 'E', to, from)/"
+short_fault "memory behind the tables is cleared" 's/t->key + limit - /t->key + limit + 1 - /'
+short_fault "the keys are not cleared" 's/t->key + limit - /t->key - /'
+short_fault "keys and marks in one place" 's/t->key = t->marks + n/t->key = t->marks/'
+short_fault "a byte too few for a key" 's/ + (size_t)limit \* STEP_BYTES/ + (size_t)limit * STEP_BYTES - 1/'
+few=1 short_fault "a close sent for a terminal mark" "s/send(t, 'T', state, 0, 0)/send(t, 'C', state, 0, 0)/"
+short_fault "the ends of a step exchanged" "s/send(t, 'E', from, to, 0)/send(t, 'E', to, from, 0)/"
+short_fault "the ends of a step by key exchanged" "s/send(t, 'E', from, to, key)/send(t, 'E', to, from, key)/"
+short_fault "a step by key 0 alone" "s/send(t, 'E', from, to, key)/send(t, 'E', from, to, 0)/"
+short_fault "a step without a key by key 1" "s/send(t, 'E', from, to, 0)/send(t, 'E', from, to, 1)/"
+short_fault "a key cut to a byte" 's/second, by_key, t->status/second, (uint8_t)by_key, t->status/'
 short_fault "states in sixteen bits" 's/kind, first, second,/kind, (uint16_t)first, (uint16_t)second,/'
 short_fault "the number of steps is not brought on" 's/    return radvoinis_update(t->n, t->limit, &t->steps,/    size_t steps = t->steps; return radvoinis_update(t->n, t->limit, \&steps,/'
 short_fault "queue and visited marks exchanged" "$(within send 's/t->queue/t->other/; s/t->visited/t->queue/; s/t->other/t->visited/')"
@@ -384,6 +444,8 @@ short_fault "lists in and out exchanged" "$(within send 's/t->in_next/t->other/;
 short_fault "the question of another state" 's/t->status, t->n, state)/t->status, t->n, state + 1)/'
 short_fault "the question forgets the steps" "$(within radvoinis_status_of 's/t->limit, t->steps/t->limit, 0/')"
 short_fault "the check of other lists" "$(within radvoinis_check 's/t->in_head/t->out_head/')"
+short_fault "the check of other keys" "$(within radvoinis_check 's/t->key/t->marks/')"
+short_fault "the record of other keys" "$(within radvoinis_save 's/t->key/(const uint8_t *)t->to/')"
 short_fault "the record of no steps" "$(within radvoinis_save 's/t->limit, t->steps/t->limit, 0/')"
 short_fault "the record's steps backwards" "$(within radvoinis_save 's/t->from/t->other/; s/t->to,/t->from,/; s/t->other/t->to/')"
 short_fault "a buffer of one byte more" "$(within radvoinis_save 's/buf, len, at/buf, len + 1, at/')"

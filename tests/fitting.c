@@ -1,4 +1,4 @@
-// "Tables fit", by the words of document 01 and the rule of the work tables.
+// "Tables fit", by the words of documents 01 and 02 and the rule of the work tables.
 #include "fitting.h"
 #include <string.h>
 
@@ -10,13 +10,13 @@ int history_of(const Tables *t, History *h)
 {
     history_start(h, t->n, t->steps);
     for (size_t s = 0; s < t->n; s++)
-        if (t->marks[s] & TERMINAL) history_add(h, (Update){'T', s, 0});
+        if (t->marks[s] & TERMINAL) history_add(h, (Update){'T', s, 0, 0});
     for (size_t p = 0; p < t->steps; p++) {
-        if (t->from[p] >= t->n || t->to[p] >= t->n) return 0;
-        history_add(h, (Update){'E', t->from[p], t->to[p]});
+        if (t->from[p] >= t->n || t->to[p] >= t->n || t->key[p] > MOST_KEY) return 0;
+        history_add(h, (Update){'E', t->from[p], t->to[p], t->key[p]});
     }
     for (size_t s = 0; s < t->n; s++)
-        if (t->marks[s] & CLOSED) history_add(h, (Update){'C', s, 0});
+        if (t->marks[s] & CLOSED) history_add(h, (Update){'C', s, 0, 0});
     return 1;
 }
 

@@ -1,4 +1,4 @@
-// Whether tables fit, from the words of document 01 and the rule of the work tables (docs/ARCHITECTURE.md, "The tables"). It knows
+// Whether tables fit, from the words of documents 01 and 02 and the rule of the work tables (docs/ARCHITECTURE.md, "The tables"). It knows
 // nothing of the table check.
 #ifndef FITTING_H
 #define FITTING_H
@@ -8,7 +8,7 @@
 // Tables of any contents, each as long as n or the limit asks, with a number of steps within the limit.
 typedef struct {
     size_t n, steps;
-    const uint8_t *status, *marks;
+    const uint8_t *status, *marks, *key;
     const uint16_t *from, *to, *successor, *in_head, *out_head, *visited, *in_next, *out_next;
 } Tables;
 
@@ -21,7 +21,8 @@ size_t fits_successors(const Tables *t);
 int fits_lists(const Tables *t);
 int fits_visited(const Tables *t);
 
-// The history that ends with these marks and this step list: terminal marks, steps, closes. Answers whether the steps' ends are below n.
+// The history that ends with these marks and this step list: terminal marks, steps, closes. Answers whether the steps' ends are below n
+// and their keys in bounds.
 int history_of(const Tables *t, History *h);
 
 #endif

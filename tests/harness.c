@@ -7,6 +7,7 @@
 #include "runs.h"
 #include "wild.h"
 #include <stdio.h>
+#include <stdlib.h>
 #include <string.h>
 
 // ---- checks
@@ -18,6 +19,7 @@ typedef enum {
     CHECK_VALUE,
     CHECK_MARKS,
     CHECK_STEPS,
+    CHECK_KEYS,
     CHECK_RISING,
     CHECK_KEPT,
     CHECK_NEWS,
@@ -42,6 +44,7 @@ static const char *const check_names[CHECKS] = {
     "state value",
     "marks",
     "step list",
+    "the key of a step at its place, all other keys kept",
     "news rising and below n",
     "entries past the needed ones, behind the news and around the tables kept",
     "news as the reference has it",
@@ -58,7 +61,7 @@ static const char *const check_names[CHECKS] = {
     "the reference's two ways agree",
 };
 
-static unsigned long refusals[12], closed_again, left_out_again, made_live, made_dead, longest_chain;
+static unsigned long refusals[15], closed_again, left_out_again, made_live, made_dead, longest_chain;
 
 // ---- one call, on tables with any contents
 
@@ -83,7 +86,7 @@ static uint8_t mark_bits(Update u, size_t s)
 static void check_accepted(Lent *l, Update u, size_t news)
 {
     static const Name searched[] = {STATUS, SUCCESSOR, IN_HEAD, OUT_HEAD, QUEUE, VISITED, IN_NEXT, OUT_NEXT};
-    Table *marks = &l->table[MARKS], *from = &l->table[FROM], *to = &l->table[TO], *list = &l->table[NEWS];
+    Table *marks = &l->table[MARKS], *from = &l->table[FROM], *to = &l->table[TO], *key = &l->table[KEY], *list = &l->table[NEWS];
     size_t p = l->steps_before[1], is_step = u.kind == 'E';
     l->steps_before[1] += is_step;
     check(CHECK_VALUE, memcmp(l->steps, l->steps_before, sizeof l->steps) == 0);
@@ -93,6 +96,8 @@ static void check_accepted(Lent *l, Update u, size_t news)
     check(CHECK_MARKS, table_same(marks));
     if (is_step) table_expect(from, p, u.first), table_expect(to, p, u.second);
     check(CHECK_STEPS, table_same(from) && table_same(to));
+    if (is_step) table_expect(key, p, u.key);
+    check(CHECK_KEYS, table_same(key));
     if (!check(CHECK_RISING, news <= l->n && rising_below(words(l, NEWS), news, l->n))) return;
     table_expect_free(list, 0, news);
     int kept = table_same(list);
@@ -218,10 +223,10 @@ static void run_sent(Run *r, Update u)
 static Lent lent_a, lent_b;
 static Run full = {.lent = &lent_a, .send = run_sent}, thin = {.lent = &lent_b};
 
-// ---- the marked examples of document 01, their answers as it gives them; and closes of closed states, by document 02
+// ---- the marked examples of document 01, their answers as it gives them; closes of closed states and keys, by document 02
 
 typedef struct {
-    const char *updates;
+    const char *updates;    // a step by another key than 0 has it behind a colon
     size_t limit;
     int refused;
     const char *news;
@@ -250,6 +255,16 @@ static const Example examples[] = {
     {"T0 C0 C0", 4, 0, "", 0, "300"},
     {"E01 C0 C0", 4, 0, "", 0, "210"},
     {"E01 E10 C0 C1 C0", 4, 0, "", 0, "440"},
+    {"E01:31", 4, 0, "", 0, "110"},
+    {"E01:32", 4, 14, "", 0, NULL},
+    {"E05:32", 4, 5, "", 0, NULL},
+    {"C0 E01:32", 4, 14, "", 0, NULL},
+    {"C0 E01:31", 4, 6, "", 0, NULL},
+    {"E01:7 E01:32", 1, 14, "", 0, NULL},
+    {"E01:7 E01:8", 1, 9, "", 0, NULL},
+    {"E01:7 E01:8 E01:9", 2, 9, "", 0, NULL},
+    {"E01:7 E01:8 C0 C1", 2, 0, "01", DEAD, NULL},
+    {"E01:7 E01:8 C0 T1", 2, 0, "01", LIVE, NULL},
 };
 
 static int example_ends(const Example *x, uint32_t answer)
@@ -274,9 +289,14 @@ static void group_examples(void)
         lent_size(&lent_a, 3, x->limit, 0);
         lent_fresh(&lent_a);
         for (const char *c = x->updates; *c; c += *c == ' ') {
-            Update u = {(uint8_t)*c++, (size_t)(*c - '0'), 0};
+            Update u = {(uint8_t)*c++, (size_t)(*c - '0'), 0, 0};
             c++;
             if (u.kind == 'E') u.second = (size_t)(*c++ - '0');
+            if (*c == ':') {
+                char *end;
+                u.key = strtoul(c + 1, &end, 10);
+                c = end;
+            }
             shown_lent = &lent_a, shown_update = u;
             answer = lent_update(&lent_a, u);
         }
@@ -290,6 +310,7 @@ static void group_lists_2(void) { every_list(&full, 2, 2, 5, 3); }
 static void group_lists_2_long(void) { every_list(&full, 2, 3, by_scale(6, 7, 8), 2); }
 static void group_lists_3(void) { every_list(&full, 3, 2, 4, 4); }
 static void group_lists_3_long(void) { every_list(&full, 3, 4, by_scale(5, 6, 6), 3); }
+static void group_lists_keyed(void) { every_keyed_list(&full, 2, 2, by_scale(3, 4, 5), 2); }
 
 // ---- the reference against itself: dead by reach and by continuations; state by state and by search
 
@@ -330,7 +351,7 @@ static void group_references(void)
         history_start(&h, n, MOST_STEPS);
         for (size_t k = below(4 * n); k > 0; k--) {
             size_t kind = below(5 + closes + marks);
-            history_add(&h, (Update){kind < 5 ? 'E' : kind < 5 + closes ? 'C' : 'T', below(n), below(n)});
+            history_add(&h, (Update){kind < 5 ? 'E' : kind < 5 + closes ? 'C' : 'T', below(n), below(n), some_key()});
         }
         reference_statuses(&h, naive);
         reference_statuses_quick(&h, quick);
@@ -448,12 +469,12 @@ static void pruned_run(size_t n, size_t limit, size_t updates)
     start_both(n, limit);
     for (size_t i = 0; i < updates && !failed; i++) {
         size_t kind = below(steps + terminals + closes);
-        Update u = {kind < steps ? 'E' : kind < steps + terminals ? 'T' : 'C', below(n + one_in(16)), 0};
+        Update u = {kind < steps ? 'E' : kind < steps + terminals ? 'T' : 'C', below(n + one_in(16)), 0, 0};
         if (u.kind == 'T' && n > 24 && !one_in(n / 12)) u.kind = 'E';
-        u.second = target(n, u.first, near);
+        u.second = target(n, u.first, near), u.key = one_in(32) ? far_key() : key_for(u.kind);
         send_both(u, leave == 4 || below(4) < leave);
     }
-    Update last = {'C', below(n), 0};
+    Update last = {'C', below(n), 0, far_key()};
     for (size_t i = 0; i < 3 && !failed; i++) send_both(last, leave == 4 || below(4) < leave);
 }
 
@@ -526,7 +547,7 @@ static void group_told(void)
 static void call_some(Lent *l)
 {
     size_t news;
-    call(l, (Update){"ETC"[below(3)], below(8), below(8)}, &news);
+    call(l, (Update){"ETC"[below(3)], below(8), below(8), below(MOST_KEY + 4)}, &news);
 }
 
 static void group_values(void)
@@ -546,7 +567,27 @@ static void group_states(void)
     for (size_t i = 0; i < 6 * 3 * EDGES * EDGES && !failed; i++) {
         progress(i, 6 * 3 * EDGES * EDGES);
         if (i % 50 == 0) lent_size(l, sizes[i / (3 * EDGES * EDGES)], one_in(2) ? 64 : 1, 0), lent_fresh(l);
-        call(l, (Update){"ETC"[i / (EDGES * EDGES) % 3], edges[i / EDGES % EDGES], edges[i % EDGES]}, &news);
+        call(l, (Update){"ETC"[i / (EDGES * EDGES) % 3], edges[i / EDGES % EDGES], edges[i % EDGES], edges[below(EDGES)]}, &news);
+    }
+}
+
+// Keys around 0 and the powers of two, by each kind, from an open state and a closed one, to a state in range and out of it, with a place
+// free and with none: 5, 14, 6, 9 in this order. To a terminal mark and a close the key means nothing.
+static void group_keys(void)
+{
+    static const size_t around[] = {0, 0xff80, 0xffff80, 0x7fffff80, 0xffffff80, 0xffffffff80, SIZE_MAX / 2 - 127, SIZE_MAX - 319};
+    enum { KEYS = 320, CASES = 3 * 8, ALL = sizeof around / sizeof *around * KEYS * CASES };
+    Lent *l = &lent_a;
+    size_t news;
+    shown_history = NULL;
+    lent_size(l, 3, 2, 4);
+    for (size_t i = 0; i < ALL && !failed; i++) {
+        size_t key = around[i / CASES / KEYS] + i / CASES % KEYS;
+        progress(i, ALL);
+        lent_fresh(l);
+        table_set(&l->table[MARKS], 1, i & 1 ? NAMED : NAMED | CLOSED);
+        l->steps[1] = i & 2 ? 1 : 2;
+        call(l, (Update){"ETC"[i / 8 % 3], 1, i & 4 ? 2 : 3, key}, &news);
     }
 }
 
@@ -557,7 +598,7 @@ static void group_kinds(void)
     size_t news;
     shown_history = NULL;
     for (size_t i = 0; i < 256 * 64 && !failed; i++) {
-        Update u = {(uint8_t)(i % 256), below(4), below(4)};
+        Update u = {(uint8_t)(i % 256), below(4), below(4), below(MOST_KEY + 4)};
         wild_lengths(l);
         wild_contents(l);
         wild_values(l);
@@ -582,7 +623,7 @@ static void group_first_state(void)
         lent_fresh(l);
         table_set(&l->table[MARKS], 1, i % 256), table_set(&l->table[STATUS], 1, i / 256 % 256);
         l->steps[1] = 1 + i / (256 * 256 * 3);
-        call(l, (Update){"ETC"[i / (256 * 256) % 3], 1, below(3)}, &news);
+        call(l, (Update){"ETC"[i / (256 * 256) % 3], 1, below(3), one_in(8) ? far_key() : some_key()}, &news);
     }
 }
 
@@ -636,6 +677,7 @@ static const Group groups[] = {
     {"every longer list, 2 states, limit 3", group_lists_2_long},
     {"every list of up to 4 updates, 3 states, limit 2, a state out of range", group_lists_3},
     {"every longer list, 3 states, limit 4", group_lists_3_long},
+    {"every list of up to 4 updates, 2 states, limit 2, keys 0, 31, 32 and 256", group_lists_keyed},
     {"random runs, up to 12 states", group_runs_small},
     {"random runs, up to 128 states", group_runs_medium},
     {"random runs, up to 2,048 states and 8,192 steps", group_runs_large},
@@ -649,6 +691,7 @@ static const Group groups[] = {
     {"tables told longer than they are", group_told},
     {"n, limit and steps up to the largest number", group_values},
     {"state numbers up to the largest number", group_states},
+    {"keys up to the largest number", group_keys},
     {"every kind byte", group_kinds},
     {"every mark and status byte of the first state", group_first_state},
     {"the status question", group_question},
@@ -661,7 +704,7 @@ static void show_counts(void)
            made_live, made_dead, longest_chain - 1);
     printf("refusals:");
     for (int i = 1; i <= 6; i++) printf(" %d: %lu,", i, refusals[i]);
-    printf(" 9: %lu, 11: %lu\n", refusals[9], refusals[11]);
+    printf(" 9: %lu, 11: %lu, 14: %lu\n", refusals[9], refusals[11], refusals[14]);
     printf("closes of closed states: %lu; left out of pruned runs: %lu\n", closed_again, left_out_again);
 }
 

@@ -8,12 +8,14 @@
 
 enum { MOST_ENTRIES = MOST_STEPS + 64 };
 
-static int by_step(Name k) { return k == FROM || k == TO || k == IN_NEXT || k == OUT_NEXT; }
+static int by_step(Name k) { return k == FROM || k == TO || k == KEY || k == IN_NEXT || k == OUT_NEXT; }
+
+size_t lent_width(Name k) { return k == STATUS || k == MARKS || k == KEY ? 1 : 2; }
 
 void lent_make(Lent *l)
 {
     *l = (Lent){0};
-    for (Name k = 0; k < TABLES; k++) table_make(&l->table[k], k <= MARKS ? 1 : 2, MOST_ENTRIES);
+    for (Name k = 0; k < TABLES; k++) table_make(&l->table[k], lent_width(k), MOST_ENTRIES);
 }
 
 void lent_place(Lent *l, Name k, size_t length, Side side) { table_place(&l->table[k], length, side); }
@@ -46,6 +48,7 @@ Tables lent_tables(const Lent *l)
         .marks = bytes(l, MARKS),
         .from = words(l, FROM),
         .to = words(l, TO),
+        .key = bytes(l, KEY),
         .successor = words(l, SUCCESSOR),
         .in_head = words(l, IN_HEAD),
         .out_head = words(l, OUT_HEAD),
@@ -101,10 +104,11 @@ uint32_t lent_update(Lent *l, Update u)
     const Table *t = l->table;
     call_begin();
     uint32_t answer = radvoinis_update(
-        l->n, l->limit, &l->steps[1], u.kind, u.first, u.second, bytes(l, STATUS), t[STATUS].told, bytes(l, MARKS), t[MARKS].told,
-        words(l, FROM), t[FROM].told, words(l, TO), t[TO].told, words(l, SUCCESSOR), t[SUCCESSOR].told, words(l, NEWS), t[NEWS].told,
-        words(l, IN_HEAD), t[IN_HEAD].told, words(l, OUT_HEAD), t[OUT_HEAD].told, words(l, QUEUE), t[QUEUE].told, words(l, VISITED),
-        t[VISITED].told, words(l, IN_NEXT), t[IN_NEXT].told, words(l, OUT_NEXT), t[OUT_NEXT].told);
+        l->n, l->limit, &l->steps[1], u.kind, u.first, u.second, u.key, bytes(l, STATUS), t[STATUS].told, bytes(l, MARKS),
+        t[MARKS].told, words(l, FROM), t[FROM].told, words(l, TO), t[TO].told, bytes(l, KEY), t[KEY].told, words(l, SUCCESSOR),
+        t[SUCCESSOR].told, words(l, NEWS), t[NEWS].told, words(l, IN_HEAD), t[IN_HEAD].told, words(l, OUT_HEAD), t[OUT_HEAD].told,
+        words(l, QUEUE), t[QUEUE].told, words(l, VISITED), t[VISITED].told, words(l, IN_NEXT), t[IN_NEXT].told, words(l, OUT_NEXT),
+        t[OUT_NEXT].told);
     call_end();
     return answer;
 }

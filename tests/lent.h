@@ -5,7 +5,7 @@
 #include "fitting.h"
 #include "table.h"
 
-typedef enum { STATUS, MARKS, FROM, TO, SUCCESSOR, NEWS, IN_HEAD, OUT_HEAD, QUEUE, VISITED, IN_NEXT, OUT_NEXT, TABLES } Name;
+typedef enum { STATUS, MARKS, FROM, TO, KEY, SUCCESSOR, NEWS, IN_HEAD, OUT_HEAD, QUEUE, VISITED, IN_NEXT, OUT_NEXT, TABLES } Name;
 
 typedef struct {
     Table table[TABLES];
@@ -31,7 +31,8 @@ static inline uint16_t *words(const Lent *l, Name k) { return (uint16_t *)(void 
 // The tables to be read, where they are long enough.
 Tables lent_tables(const Lent *l);
 
-// The entries that a table must have: one for each state, or one for each step of the limit.
+// The bytes of a table's entry; and the entries that it must have: one for each state, or one for each step of the limit.
+size_t lent_width(Name k);
 size_t lent_needed(const Lent *l, Name k);
 
 // Whether the tables that a call is lent are long enough; a set of tables has the bit 1 << k for table k.

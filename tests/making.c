@@ -37,16 +37,37 @@ void add_run(uint8_t byte, size_t count)
     record_length += count;
 }
 
-void start_record(void)
+const char *const names_line[FORMS] = {"kind from to\n", "kind from to key\n"};
+Form form;
+
+Form some_form(void) { return one_in(3) ? WITHOUT_KEYS : WITH_KEYS; }
+
+void start_record(Form f)
 {
+    form = f;
     record_length = 0;
-    add("kind from to\n");
+    add("%s", names_line[f]);
 }
 
 void add_update(Update u)
 {
-    if (u.kind == 'E') add("E %zu %zu\n", u.first, u.second);
-    else add("%c %zu -\n", u.kind, u.first);
+    if (u.kind == 'E') add("E %zu %zu", u.first, u.second);
+    else add("%c %zu -", u.kind, u.first);
+    if (form == WITH_KEYS && u.kind == 'E') add(" %zu", u.key);
+    else if (form == WITH_KEYS) add(" -");
+    add("\n");
+}
+
+void add_lines(const char *lines)
+{
+    while (*lines) {
+        size_t bytes = strcspn(lines, "\n");
+        add_bytes(lines, bytes);
+        if (form == WITH_KEYS && *lines == 'E') add(" %zu", some_key());
+        else if (form == WITH_KEYS && bytes > 0) add(" -");
+        if (lines[bytes]) add("\n"), bytes++;
+        lines += bytes;
+    }
 }
 
 void show_record(void)
@@ -60,7 +81,7 @@ void show_record(void)
 // ---- valid records
 
 // Updates over so many states. A careful explorer sends nothing that is refused.
-static void add_lines(size_t lines, size_t states, int careful)
+static void add_explored(size_t lines, size_t states, int careful)
 {
     static History h;
     size_t far = careful ? 0 : below(3);
@@ -68,6 +89,7 @@ static void add_lines(size_t lines, size_t states, int careful)
     for (size_t i = 0; i < h.count; i++) {
         Update u = h.accepted[i];
         if (far && one_in(40)) *(one_in(2) ? &u.first : &u.second) = one_in(2) ? 2046 + below(4) : below(65536);
+        if (far && one_in(40)) u.key = one_in(2) ? MOST_KEY - 1 + below(4) : below(65540);
         add_update(u);
     }
 }
@@ -75,8 +97,8 @@ static void add_lines(size_t lines, size_t states, int careful)
 static void random_record(void)
 {
     size_t lines = one_in(20) ? below(3000) : below(one_in(3) ? 200 : 30), careful = one_in(2);
-    start_record();
-    add_lines(lines, one_in(4) ? 2048 : 1 + below(1 + lines / 2), (int)careful);
+    start_record(some_form());
+    add_explored(lines, one_in(4) ? 2048 : 1 + below(1 + lines / 2), (int)careful);
     if (one_in(3)) record_length--;
 }
 
@@ -89,19 +111,21 @@ void valid_records(size_t count, void (*hold)(size_t piece))
     }
 }
 
-// As many steps as the limit, and more; then a verdict for all states at once.
+// As many steps as the limit, and more, of which the last has a key above 31; then a verdict for all states at once.
 void full_records(size_t count, void (*hold)(size_t piece))
 {
-    for (size_t more = 0; more < 4 && !failed; more++) {
-        start_record();
-        for (size_t p = 0; p < 2047 + more; p++) add("E %zu %zu\n", p % 2048, (p + 1) % 2048);
-        for (size_t s = 0; s < 2047; s++) add("C %zu -\n", s);
-        add(one_in(2) ? "C 2047 -\n" : "T 2047 -\n");
+    for (size_t i = 0; i < 5 && !failed; i++) {
+        size_t steps = i < 4 ? 2047 + i : 2049;
+        start_record(i < 4 ? WITH_KEYS : WITHOUT_KEYS);
+        for (size_t p = 0; p < steps; p++) add_update((Update){'E', p % 2048, (p + 1) % 2048, some_key()});
+        add_update((Update){'E', 0, 1, MOST_KEY + 1});
+        for (size_t s = 0; s < 2047; s++) add_update((Update){'C', s, 0, 0});
+        add_update((Update){one_in(2) ? 'C' : 'T', 2047, 0, 0});
         hold(0);
     }
     for (size_t i = 0; i < count && !failed; i++) {
-        start_record();
-        add_lines(1000 + below(8000), 2048, one_in(2));
+        start_record(some_form());
+        add_explored(1000 + below(8000), 2048, one_in(2));
         hold(0);
     }
 }
@@ -159,7 +183,7 @@ void damaged_records(size_t count, void (*hold)(size_t piece))
     for (size_t i = 0; i < count && !failed; i++) {
         progress(i, count);
         random_record();
-        for (size_t k = 1 + below(one_in(4) ? 20 : 3); k > 0; k--) damage(i % 8 ? NAMES : 0);
+        for (size_t k = 1 + below(one_in(4) ? 20 : 3); k > 0; k--) damage(i % 8 ? strlen(names_line[form]) : 0);
         hold(0);
     }
 }
@@ -168,11 +192,11 @@ void noisy_records(size_t count, void (*hold)(size_t piece))
 {
     for (size_t i = 0; i < count && !failed; i++) {
         progress(i, count);
-        start_record();
-        if (one_in(10)) record_length = below(NAMES + 1);
+        start_record(some_form());
+        if (one_in(10)) record_length = below(record_length + 1);
         for (size_t k = below(4000); k > 0; k--) {
             uint8_t byte = some_byte();
-            if (one_in(4)) add_update((Update){"ETC"[below(3)], below(5), below(5)});
+            if (one_in(4)) add_update((Update){"ETC"[below(3)], below(5), below(5), below(MOST_KEY + 3)});
             add_bytes(&byte, 1);
         }
         hold(0);
@@ -181,7 +205,7 @@ void noisy_records(size_t count, void (*hold)(size_t piece))
 
 // ---- lines at the edges
 
-static const char *const awkward[] = {
+static const char *const awkward[] = {    // without keys
     "", " ", "\r", "-", "E", "T", "C", "0", "E ", "E 0", "E 0 ", "T 0", "T 0 ", "E 0 1\r", "T 0 -\r", "E 0\r1", "\rE 0 1", "E  0 1",
     "E 0  1", " E 0 1", "E 0 1 ", "E 0 1 2", "E\t0 1", "E 0\t1", "T  0 -", "T 0  -", "T 0 - ", " T 0 -", "T 0 --", "T 0 0", "C 0 0",
     "T - -", "C - 0", "E 0 -", "E - 0", "E - -", "e 0 1", "t 0 -", "c 0 -", "X 0 1", "X 0 -", "EE 0 1", "E0 1", "T0 -", "E 01", "E 00 1",
@@ -196,22 +220,57 @@ static const char *const awkward[] = {
     "E 0 :", "E / 0", "E : 0", "T 0 ,", "T 0 .", "T 0 _", "T 1 - E 1 2", "end open 0", "5 dead 0", "EOF", "\x1a", "\x04",
 };
 
-enum { AWKWARD = sizeof awkward / sizeof *awkward };
+static const char *const keyed_awkward[] = {    // state 2 is closed before
+    "E 0 1 0", "E 0 1 7", "E 0 1 31", "E 0 1 32", "E 0 1 33", "E 0 1 99", "E 0 1 255", "E 0 1 256", "E 0 1 287", "E 0 1 311",
+    "E 0 1 65535", "E 0 1 65536", "E 0 1 65567", "E 0 1 99999", "E 0 1 4294967296", "E 0 1 4294967303", "E 0 1 00", "E 0 1 07",
+    "E 0 1 031", "E 0 1 0032", "E 0 1 000000031", "E 0 1 -", "E 0 1 -7", "E 0 1 +7", "E 0 1 0x7", "E 0 1 7.", "E 0 1 7x", "E 0 1 x",
+    "E 0 1 /", "E 0 1 :", "E 0 1 ", "E 0 1 7 ", "E 0 1 7\r", "E 0 1  7", "E 0 1\t7", "E 0  1 7", "E 0 1 7 8", "E 0 1 7 -", "E 0 1,7",
+    "E 0 1 7\xc2\xa0", "E 0 - 7", "E - 1 7", "E 0 - -", "E 00 1 7", "E 0 01 7", "E 2 1 31", "E 2 1 32", "E 2 2048 32", "E 2048 0 31",
+    "E 2048 0 32", "E 0 2048 65535", "E 0 2048 65536", "E 2047 2047 31", "E 65535 65535 9", "E 65535 65535 31", "E 65535 65535 32",
+    "E 65535 65535 99", "E 65535 65535 031", "E 65535 65535 255", "E 65535 65535 311", "E 65535 65535 31 ", "E 65535 6553 255",
+    "E 655 655 65535", "E 6553 655 65535", "E 6553 6553 65535", "E 65536 0 7", "E 0 65536 7", "e 0 1 7", "X 0 1 7", "EE 0 1 7", "T 0 - -",
+    "C 0 - -", "T 2 - -", "T 0 - 0", "C 0 - 7", "T 0 0 -", "C 0 7 -", "T 0 0 0", "C 0 7 31", "T 0 - --", "T 0 -- -", "T 0 - ", "T 0 - - ",
+    "T 0 - -\r", "T 0 -  -", "T 0  - -", "T 0 -\t-", "T 0 - - -", "T 0 - - 7", "T 0 --", "T - - -", "C - - -", "T 00 - -", "C 2047 - -",
+    "C 2048 - -", "T 65535 - -", "C 65536 - -", "T 0 - _", "T 0 - 0x", "t 0 - -", "T 65535 - -     ", "T 65535 - -      ",
+    "kind from to key", "kind from to key ",
+};
+
+enum { AWKWARD = sizeof awkward / sizeof *awkward, KEYED_AWKWARD = sizeof keyed_awkward / sizeof *keyed_awkward };
+
+// A line of one of the lists; with keys, those of the first list come as they are and with the field that they lack.
+static void add_awkward(size_t i)
+{
+    if (i < AWKWARD) add("%s", awkward[i]);
+    else if (i < AWKWARD + KEYED_AWKWARD) add("%s", keyed_awkward[i - AWKWARD]);
+    else add_lines(awkward[i - AWKWARD - KEYED_AWKWARD]);
+}
+
+static size_t awkward_lines(void) { return AWKWARD + KEYED_AWKWARD + (form == WITH_KEYS ? AWKWARD : 0); }
 
 // Each line alone, ended by a newline or not; then all of them in one record.
-void awkward_records(void (*hold)(size_t piece))
+static void awkward_in(Form f, void (*hold)(size_t piece))
 {
-    for (size_t i = 0; i < 2 * AWKWARD && !failed; i++) {
-        start_record();
-        add("E 0 1\n%s%s", awkward[i / 2], i % 2 ? "" : "\nT 1 -\n");
+    form = f;
+    for (size_t i = 0; i < 2 * awkward_lines() && !failed; i++) {
+        progress(i, 2 * awkward_lines());
+        start_record(f);
+        add_lines("E 0 1\nC 2 -\n");
+        add_awkward(i / 2);
+        if (i % 2) add("\n"), add_lines("T 1 -\n");
         hold(0);
     }
     for (size_t last = 0; last < 2; last++) {
-        start_record();
-        for (size_t i = 0; i < AWKWARD; i++) add("%s\nE %zu %zu\n", awkward[i], i, i + 1);
+        start_record(f);
+        add_lines("C 2 -\n");
+        for (size_t i = 0; i < awkward_lines(); i++) add_awkward(i), add("\n"), add_update((Update){'E', i, i + 1, some_key()});
         record_length -= last;
         hold(0);
     }
+}
+
+void awkward_records(void (*hold)(size_t piece))
+{
+    for (Form f = 0; f < FORMS; f++) awkward_in(f, hold);
 }
 
 // ---- the names line
@@ -221,25 +280,34 @@ static const char *const other_beginnings[] = {
     "kind from t\n", "kind from too\n", "kind from to kind\n", "kind from to kind\nT 0 -\n", "kind\nfrom\nto\n", "T 0 -\n",
     "T 0 -\nkind from to\n", "from to kind\n", "kind,from,to\n", "\xef\xbb\xbfkind from to\n", "kind from to\n\n", "kind from to\n\n\n",
     "kind from to\nkind from to\n", "kind from to\r", "kind from to\n\r",
+    "kind from to key \nT 0 - -\n", "kind from to key\r\nT 0 - -\n", " kind from to key\nT 0 - -\n", "kind from to keys\nT 0 - -\n",
+    "kind from to ke\nT 0 - -\n", "kind from to k\nT 0 - -\n", "kind from to  key\nT 0 - -\n", "kind from to\tkey\nT 0 - -\n",
+    "kind from tokey\nT 0 - -\n", "kind from key\nT 0 -\n", "kind from key to\nT 0 - -\n", "kind from to Key\nT 0 - -\n",
+    "kind from to key key\nT 0 - - -\n", "kind from to -\nT 0 - -\n", "kind from to 31\nT 0 - -\n", "kind,from,to,key\nT 0 - -\n",
+    "kind from to key\nkind from to key\n", "kind from to key\nkind from to\nT 0 -\n", "kind from to\nkind from to key\nT 0 - -\n",
+    "kind from to\n key\nT 0 -\n", "key\nkind from to\n", "kind from to key\n\n", "kind from to key\n\r", "KIND FROM TO KEY\n",
+    "E 0 1 7\nkind from to key\n",
 };
 
 enum { OTHER_BEGINNINGS = sizeof other_beginnings / sizeof *other_beginnings };
 
 void beginnings(void (*hold)(size_t piece))
 {
-    start_record();
-    add("T 0 -\nE 1 0\nC 1 -\n");
-    for (size_t whole = record_length; record_length > 0 && !failed; record_length--) hold(whole % 2);
+    for (Form f = 0; f < FORMS; f++) {
+        start_record(f);
+        add_lines("T 0 -\nE 1 0\nC 1 -\n");
+        for (; record_length > 0 && !failed; record_length--) hold(record_length % 2);
+    }
     hold(0), hold(1);
     for (size_t i = 0; i < OTHER_BEGINNINGS && !failed; i++) {
         record_length = 0;
         add("%s", other_beginnings[i]);
         for (; record_length > 0 && !failed; record_length--) hold(0);
     }
-    for (size_t i = 0; i <= NAMES && !failed; i++) {
-        start_record();
-        add("E 0 1\nT 1 -\n");
-        record[i] = 0;
+    for (size_t i = 0; i < 2 * 20 && !failed; i++) {
+        start_record((Form)(i % 2));
+        add_lines("E 0 1\nT 1 -\n");
+        record[i / 2] = 0;
         hold(0);
     }
 }
@@ -248,18 +316,18 @@ void beginnings(void (*hold)(size_t piece))
 
 static void add_shape(Shape shape)
 {
-    if (shape == TERMINALS) add("T 7 -\n");
+    if (shape == TERMINALS) add_lines("T 7 -\n");
     else if (shape == BLANK) add("\n");
     else if (shape == MALFORMED) add("E 1 2 \n");
-    else if (one_in(3)) add("%s\n", awkward[below(AWKWARD)]);
-    else add_lines(1, 1 + below(2048), 0);
+    else if (one_in(3)) add_awkward(below(awkward_lines())), add("\n");
+    else add_explored(1, 1 + below(2048), 0);
 }
 
 void lines_record(size_t lines, Shape shape, const char *last, size_t newline)
 {
-    start_record();
+    start_record(some_form());
     for (size_t i = 2; i < lines; i++) add_shape(shape);
-    add("%s", last);
+    add_lines(last);
     if (newline) add("\n");
 }
 
@@ -281,17 +349,20 @@ void long_lines(void (*hold)(size_t piece))
     static const uint8_t of[] = {'0', ' ', 0, '\r', 'E', 255};
     for (size_t i = 0; i < 12 && !failed; i++) {
         progress(i, 12);
-        record_length = 0;
-        if (i >= 3) add("kind from to\nE 0 1\n");
-        if (i >= 6) add("T 1 -\n");
-        if (i >= 8) add("E 65535 65535");
+        start_record(some_form());
+        if (i < 3) record_length = 0;
+        if (i >= 3) add_lines("E 0 1\n");
+        if (i >= 6) add_lines("T 1 -\n");
+        if (i >= 8) add(form == WITH_KEYS ? "E 65535 65535 31" : "E 65535 65535");
         add_run(of[i % 6], i % 3 == 0 ? LONGEST : 65536 * i);
-        if (i % 2) add("\nE 2 3\nC 2 -\nC 3 -\nC 3 -");
+        if (i % 2) add("\n"), add_lines("E 2 3\nC 2 -\nC 3 -\nC 3 -");
         hold(0);
     }
-    for (size_t bytes = 1; bytes < 80 && !failed; bytes++) {
-        start_record();
-        add("E 0 "), add_run('0', bytes), add("\nT 0 -\n"), add_run('1', bytes), add("\n"), add_run(' ', bytes);
+    for (size_t i = 2; i < 2 * 80 && !failed; i++) {
+        size_t bytes = i / 2;
+        start_record((Form)(i % 2));
+        add("E 0 "), add_run('0', bytes), add("\n"), add_lines("T 0 -\n"), add_run('1', bytes), add("\n");
+        add("E 1 2 "), add_run('3', bytes), add("\n"), add_run(' ', bytes);
         hold(0);
     }
 }
@@ -313,11 +384,12 @@ void records_in_pieces(size_t count, void (*hold)(size_t piece))
 // Lines across the places where a program that reads by 65,536 bytes would cut, by every distance.
 void cut_lines(void (*hold)(size_t piece))
 {
-    for (size_t i = 0; i < 40 && !failed; i++) {
-        start_record();
+    for (size_t i = 0; i < 2 * 75 && !failed; i++) {
+        start_record((Form)(i % 2));
         for (size_t cut = 65536; cut < 4 * 65536; cut += 65536) {
-            add_run('x', cut - record_length - 45 + i);
-            add("\nE %zu 345\nT 345 -\nE 0 12\nC 12 -\nX\nE 7 12\n\nC 345 -\nC 7 -\n", cut / 65536);
+            add_run('x', cut - record_length - 70 + i / 2);
+            add("\n"), add_update((Update){'E', cut / 65536, 345, some_key()});
+            add_lines("T 345 -\nE 0 12\nC 12 -\nX\nE 7 12\n\nC 345 -\nC 7 -\n");
         }
         hold(0);
     }

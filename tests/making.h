@@ -4,19 +4,30 @@
 
 #include "reference.h"
 
-enum { LONGEST = 10 * 1000 * 1000, RECORD_ROOM = LONGEST + 1000000, NAMES = 13, MOST_LINES = 65535 };
+enum { LONGEST = 10 * 1000 * 1000, RECORD_ROOM = LONGEST + 1000000, MOST_LINES = 65535 };
 
 extern uint8_t record[RECORD_ROOM];
 extern size_t record_length;
 
+// The two forms of a record, their names lines with the newline, and that of the record in hand.
+typedef enum { WITHOUT_KEYS, WITH_KEYS, FORMS } Form;
+extern const char *const names_line[FORMS];
+extern Form form;
+Form some_form(void);
+
 // Starts the record in hand with its names line; adds bytes, a text, one byte many times, an update's line.
-void start_record(void);
+void start_record(Form f);
 void add_bytes(const void *bytes, size_t count);
 __attribute__((format(printf, 1, 2))) void add(const char *format, ...);
 void add_run(uint8_t byte, size_t count);
 void add_update(Update u);
 
-// Makes the record in hand one of so many lines, of which the last is the one given, with its newline or without.
+// Adds lines that are written without keys as the record in hand has them: with keys a step gets one more field, which is a key, and every
+// other line but an empty one a dash.
+void add_lines(const char *lines);
+
+// Makes the record in hand one of so many lines, in either form, of which the last is the one given, written without a key, with its
+// newline or without.
 typedef enum { TERMINALS, BLANK, MALFORMED, MIXED } Shape;
 void lines_record(size_t lines, Shape shape, const char *last, size_t newline);
 
@@ -29,7 +40,7 @@ void valid_records(size_t count, void (*hold)(size_t piece));
 void full_records(size_t count, void (*hold)(size_t piece));       // up to the step limit and past it
 void damaged_records(size_t count, void (*hold)(size_t piece));
 void noisy_records(size_t count, void (*hold)(size_t piece));      // lines of random bytes
-void awkward_records(void (*hold)(size_t piece));                  // lines at the edges of the grammar
+void awkward_records(void (*hold)(size_t piece));                  // lines at the edges of the grammar, and of the other form
 void beginnings(void (*hold)(size_t piece));                       // the empty record among them, and names lines that are not exact
 void many_lines(size_t count, void (*hold)(size_t piece));         // 65,534 to 65,537
 void long_lines(void (*hold)(size_t piece));                       // of up to ten million bytes

@@ -21,6 +21,8 @@ int main(void)
     if (radvoinis_close(&t, 0) != 0 || radvoinis_close(&t, 1) != 0) return 4;
     if (radvoinis_status_of(&t, 0) != RADVOINIS_UNKNOWN) return 5;
     if (radvoinis_step(&t, 0, 2) != RADVOINIS_REFUSED + RADVOINIS_CLOSED_SOURCE) return 6;
+    if (radvoinis_step_by_key(&t, 2, 0, RADVOINIS_MAX_KEY + 1) != RADVOINIS_REFUSED + RADVOINIS_BAD_KEY) return 11;
+    if (radvoinis_step_by_key(&t, 2, 0, RADVOINIS_MAX_KEY) != 0 || t.key[3] != RADVOINIS_MAX_KEY) return 12;
     if (radvoinis_close(&t, 2) != 3 || t.news[0] != 0 || t.status[t.news[0]] != RADVOINIS_DEAD) return 7;
     if (radvoinis_check(&t) != 1) return 8;
     if (radvoinis_save(&t, record, sizeof record, &end) != 0) return 9;

@@ -1,26 +1,34 @@
-// The reader and the listing, by the words of document 01.
+// The reader and the listing, by the words of documents 01 and 02.
 #include "reading.h"
 #include <string.h>
 
-static const char names[] = "kind from to";
+static const char plain_names[] = "kind from to", keyed_names[] = "kind from to key";
 
 // ---- a line
 
 // The update of a line, or kind 0 for a malformed one. A line is an update where it is, byte for byte, that update written out: so
-// there are no leading zeros, and no other bytes.
-static Update update_of(const uint8_t *line, size_t length)
+// there are no leading zeros, and no other bytes. After the names line without keys every step has key 0.
+static Update update_of(const uint8_t *line, size_t length, int keyed)
 {
     char text[17] = {0}, written[64];
-    unsigned long first = 0, second = 0;
+    unsigned long first = 0, second = 0, key = 0;
     if (length == 0 || length > 16) return (Update){0};
     memcpy(text, line, length);
-    sscanf(text + 1, " %10lu %10lu", &first, &second);
-    if (first > 65535 || second > 65535) return (Update){0};
+    sscanf(text + 1, " %10lu %10lu %10lu", &first, &second, &key);
+    if (first > 65535 || second > 65535 || key > 65535) return (Update){0};
+    if (!keyed) key = 0;
     if (text[0] == 'E') sprintf(written, "E %lu %lu", first, second);
     else if (text[0] == 'T' || text[0] == 'C') sprintf(written, "%c %lu -", text[0], first);
     else return (Update){0};
+    if (keyed && text[0] == 'E') sprintf(written + strlen(written), " %lu", key);
+    else if (keyed) strcat(written, " -");
     if (strlen(written) != length || memcmp(written, line, length) != 0) return (Update){0};
-    return (Update){(uint8_t)text[0], first, second};
+    return (Update){(uint8_t)text[0], first, second, key};
+}
+
+static int is_line(const char *names, const uint8_t *line, size_t length)
+{
+    return length == strlen(names) && memcmp(line, names, length) == 0;
 }
 
 // ---- what comes of it
@@ -64,7 +72,7 @@ void reading_start(Reading *r, size_t limit, FILE *listing)
 {
     history_start(&r->history, MOST_STATES, limit);
     memset(r->marks, 0, MOST_STATES), memset(r->status, 0, MOST_STATES);
-    r->refused = 0, r->lines = 0;
+    r->refused = 0, r->lines = 0, r->keyed = 0;
     if (listing) fprintf(listing, "line verdict number\n");
 }
 
@@ -72,7 +80,8 @@ int reading_line(Reading *r, const uint8_t *line, size_t length, FILE *listing)
 {
     size_t number = ++r->lines;
     if (number == 1) {
-        int exact = length == strlen(names) && memcmp(line, names, length) == 0;
+        r->keyed = is_line(keyed_names, line, length);
+        int exact = r->keyed || is_line(plain_names, line, length);
         if (!exact) refuse(r, number, 10, listing);
         return exact;
     }
@@ -80,7 +89,7 @@ int reading_line(Reading *r, const uint8_t *line, size_t length, FILE *listing)
         refuse(r, number, 12, listing);
         return 0;
     }
-    Update u = update_of(line, length);
+    Update u = update_of(line, length, r->keyed);
     const History *h = &r->history;
     int refusal = reference_sent(h->n, h->limit, h->steps, r->marks, u);
     refusal ? refuse(r, number, refusal, listing) : accept(r, number, u, listing);

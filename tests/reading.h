@@ -1,4 +1,4 @@
-// A record read and listed by the words of document 01. It knows nothing of the reader.
+// A record read and listed by the words of documents 01 and 02. It knows nothing of the reader.
 #ifndef READING_H
 #define READING_H
 
@@ -6,12 +6,13 @@
 #include <stdio.h>
 
 // What a record gives: the accepted updates, less terminal marks that repeat one, with their marks and statuses; the number of the first
-// refusal, or 0; and the number of its lines.
+// refusal, or 0; the number of its lines, and whether they have keys.
 typedef struct {
     History history;
     uint8_t marks[MOST_STATES], status[MOST_STATES];
     int refused;
     size_t lines;
+    int keyed;
 } Reading;
 
 // Reads a record, and writes its listing where there is a place for it.

@@ -1,5 +1,5 @@
-// The record reader's suite: the listing program and radvoinis_status against a reader written from document 01 alone (reading.h), on
-// valid records, damaged ones, and the shapes at the edges.
+// The record reader's suite: the listing program and radvoinis_status against a reader written from documents 01 and 02 alone (reading.h),
+// on valid records, damaged ones, and the shapes at the edges, with keys and without.
 #include "../include/radvoinis.h"
 #include "ending.h"
 #include "groups.h"
@@ -19,7 +19,7 @@ static const char *const check_names[CHECKS] = {
     "the listing, byte for byte",
     "the status of a state after a record",
     "the record and what is around it kept",
-    "document 01's listing",
+    "a sample listing",
 };
 
 static unsigned long runs, answers[32], lines_listed;
@@ -91,19 +91,27 @@ static void hold_record(size_t piece)
     hold_statuses(record_length > 20000 ? 1 : reading.refused ? 2 : 6);
 }
 
-// ---- document 01's listing
+// ---- document 01's listing, and one with keys
+
+static void hold_sample(Form f, const char *lines, const char *listing)
+{
+    start_record(f);
+    add("%s", lines);
+    for (int i = 0; i < 2; i++, record_length--) {
+        hold_record(0);
+        check(CHECK_SAMPLE, strcmp(listing, listing_text) == 0);
+    }
+}
 
 static void group_sample(void)
 {
-    static const char sample[] = "line verdict number\n5 dead 0\n5 dead 1\n6 refused 6\n7 refused 5\n"
-                                 "end open 0\nend unknown 0\nend live 0\nend dead 2\n";
-    start_record();
-    add("E 0 1\nE 1 0\nC 0 -\nC 1 -\nT 1 -\nE 2 2048\n");
-    hold_record(0);
-    check(CHECK_SAMPLE, strcmp(sample, listing_text) == 0);
-    record_length--;
-    hold_record(0);
-    check(CHECK_SAMPLE, strcmp(sample, listing_text) == 0);
+    hold_sample(WITHOUT_KEYS, "E 0 1\nE 1 0\nC 0 -\nC 1 -\nT 1 -\nE 2 2048\n",
+                "line verdict number\n5 dead 0\n5 dead 1\n6 refused 6\n7 refused 5\n"
+                "end open 0\nend unknown 0\nend live 0\nend dead 2\n");
+    hold_sample(WITH_KEYS,
+                "E 0 1 7\nE 0 1 31\nE 1 0 32\nE 2048 0 32\nC 0 - -\nE 0 1 65535\nE 0 1 31\nE 1 2\nE 1 2 65536\nC 1 - -\nT 2 - -\n",
+                "line verdict number\n4 refused 14\n5 refused 5\n7 refused 14\n8 refused 6\n9 refused 11\n10 refused 11\n"
+                "11 dead 0\n11 dead 1\n12 live 2\nend open 0\nend unknown 0\nend live 1\nend dead 2\n");
 }
 
 // ---- the series of records
@@ -121,10 +129,30 @@ static void group_cuts(void) { cut_lines(hold_record); }
 
 // ---- lines with every byte altered
 
-// Lines of all kinds, to be altered.
-static const char *const plain[] = {"E 12 3", "T 4 -", "C 56 -", "E 65535 6553", "E 2047 2048", "C 2047 -", "E 0 0"};
+// Lines of all kinds, to be altered, after either names line; the longest has 16 bytes, and the last lacks its key.
+static const struct {
+    Form form;
+    const char *line;
+} whole[] = {
+    {WITHOUT_KEYS, "E 12 3"},
+    {WITHOUT_KEYS, "T 4 -"},
+    {WITHOUT_KEYS, "C 56 -"},
+    {WITHOUT_KEYS, "E 65535 6553"},
+    {WITHOUT_KEYS, "E 2047 2048"},
+    {WITHOUT_KEYS, "C 2047 -"},
+    {WITHOUT_KEYS, "E 0 0"},
+    {WITH_KEYS, "E 12 3 7"},
+    {WITH_KEYS, "T 4 - -"},
+    {WITH_KEYS, "C 56 - -"},
+    {WITH_KEYS, "E 0 0 31"},
+    {WITH_KEYS, "E 65535 65535 3"},
+    {WITH_KEYS, "E 65535 65535 31"},
+    {WITH_KEYS, "E 2047 2047 6553"},
+    {WITH_KEYS, "C 2047 - -"},
+    {WITH_KEYS, "E 1 2"},
+};
 
-enum { PLAIN = sizeof plain / sizeof *plain };
+enum { WHOLE = sizeof whole / sizeof *whole };
 
 // The ith alteration of a line: a byte put in at some place, or in the place of another; and how many there are.
 static size_t alterations(const char *line) { return 512 * strlen(line) + 256; }
@@ -139,21 +167,23 @@ static void add_altered(const char *line, size_t i)
 // Every alteration of a line, and the line with each byte left out, in one record; then each alteration alone, asked.
 static void group_every_byte(void)
 {
-    for (size_t i = 0; i < PLAIN && !failed; i++) {
-        start_record();
-        for (size_t k = 0; k < alterations(plain[i]); k++) add_altered(plain[i], k), add("\n");
-        for (size_t at = 0; plain[i][at]; at++) add_bytes(plain[i], at), add("%s\n", plain[i] + at + 1);
+    for (size_t i = 0; i < WHOLE && !failed; i++) {
+        const char *line = whole[i].line;
+        start_record(whole[i].form);
+        for (size_t k = 0; k < alterations(line); k++) add_altered(line, k), add("\n");
+        for (size_t at = 0; line[at]; at++) add_bytes(line, at), add("%s\n", line + at + 1);
         hold_record(0);
     }
 }
 
 static void group_every_byte_alone(void)
 {
-    for (size_t i = 0; i < by_scale(2, PLAIN, PLAIN) && !failed; i++) {
-        for (size_t k = 0; k < alterations(plain[i]) && !failed; k++) {
-            progress(k, alterations(plain[i]));
-            start_record();
-            add_altered(plain[i], k);
+    for (size_t i = 0; i < WHOLE && !failed; i += by_scale(7, 1, 1)) {
+        const char *line = whole[i].line;
+        for (size_t k = 0; k < alterations(line) && !failed; k++) {
+            progress(k, alterations(line));
+            start_record(whole[i].form);
+            add_altered(line, k);
             if (one_in(2)) add("\n");
             read_record();
             hold_statuses(1);
@@ -169,16 +199,25 @@ static void hold_names(size_t altered)
     hold_statuses(1);
 }
 
-static void group_names(void)
+// Every alteration of a names line, the newline among its bytes, and the line with each byte left out.
+static void altered_names(Form f)
 {
-    static const char names[] = "kind from to\n";
-    for (size_t i = 0; i < alterations(names) && !failed; i++) {
+    const char *names = names_line[f];
+    for (size_t i = 0; i < alterations(names) + strlen(names) && !failed; i++) {
+        size_t out = i - alterations(names);
         progress(i, alterations(names));
+        start_record(f);
         record_length = 0;
-        add_altered(names, i);
-        add("T 0 -\n");
+        if (i < alterations(names)) add_altered(names, i);
+        else add_bytes(names, out), add("%s", names + out + 1);
+        add_lines("T 0 -\n");
         hold_names(i);
     }
+}
+
+static void group_names(void)
+{
+    for (Form f = 0; f < FORMS; f++) altered_names(f);
 }
 
 // ---- long listings
@@ -188,10 +227,10 @@ static void group_names(void)
 static void group_fills(void)
 {
     for (size_t refused = 0; refused < 24000 && !failed; refused += by_scale(6000, 1500, 500)) {
-        start_record();
-        for (size_t s = 0; s < 2047; s++) add("E %zu %zu\nC %zu -\n", s, s + 1, s);
+        start_record(some_form());
+        for (size_t s = 0; s < 2047; s++) add_update((Update){'E', s, s + 1, s % 32}), add_update((Update){'C', s, 0, 0});
         add_run('\n', refused);
-        add("C 2047 -\nT 0 -\n");
+        add_lines("C 2047 -\nT 0 -\n");
         list_record(0);
     }
 }
@@ -214,7 +253,7 @@ static void group_failing_outputs(void)
 // ---- all groups
 
 static const Group groups[] = {
-    {"document 01's listing", group_sample},
+    {"document 01's listing, and one with keys", group_sample},
     {"inputs that nobody closes, where reading stops", group_stopped},
     {"inputs that cannot be read to their end", group_failing_inputs},
     {"outputs that cannot be written", group_failing_outputs},

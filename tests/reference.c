@@ -1,4 +1,4 @@
-// The naive reference, by the words of document 01.
+// The naive reference, by the words of documents 01 and 02.
 #include "reference.h"
 #include <stdlib.h>
 #include <string.h>
@@ -157,7 +157,8 @@ static int can_live_after(History *h, size_t s, int updates, Update u)
     return yes;
 }
 
-// "A history is legal if no step and no terminal mark follows a close of its first state." No step limit holds here.
+// "A history is legal if no step and no terminal mark follows a close of its first state." No step limit holds here, and one key is as good
+// as another.
 int reference_can_live(History *h, size_t s, int updates)
 {
     uint8_t marks[MOST_STATES];
@@ -165,11 +166,11 @@ int reference_can_live(History *h, size_t s, int updates)
     if (updates == 0) return 0;
     reference_marks(h, marks);
     for (size_t u = 0; u < h->n; u++) {
-        if (can_live_after(h, s, updates - 1, (Update){'C', u, 0})) return 1;
+        if (can_live_after(h, s, updates - 1, (Update){'C', u, 0, 0})) return 1;
         if (marks[u] & CLOSED) continue;
         for (size_t v = 0; v < h->n; v++)
-            if (can_live_after(h, s, updates - 1, (Update){'E', u, v})) return 1;
-        if (can_live_after(h, s, updates - 1, (Update){'T', u, 0})) return 1;
+            if (can_live_after(h, s, updates - 1, (Update){'E', u, v, 0})) return 1;
+        if (can_live_after(h, s, updates - 1, (Update){'T', u, 0, 0})) return 1;
     }
     return 0;
 }
@@ -198,6 +199,7 @@ int reference_sent(size_t n, size_t limit, size_t steps, const uint8_t *marks, U
     int opens = u.kind == 'E' || u.kind == 'T';
     if (!opens && u.kind != 'C') return 11;
     if (u.first >= n || (u.kind == 'E' && u.second >= n)) return 5;
+    if (u.kind == 'E' && u.key > MOST_KEY) return 14;    // "tested right after 5"
     if (opens && (marks[u.first] & CLOSED)) return 6;
     if (u.kind == 'E' && steps == limit) return 9;
     return 0;

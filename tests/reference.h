@@ -1,4 +1,5 @@
-// The naive reference: what document 01 says of updates, worked out afresh from the accepted history. It knows nothing of the engine.
+// The naive reference: what documents 01 and 02 say of updates, worked out afresh from the accepted history. It knows nothing of the
+// engine.
 #ifndef REFERENCE_H
 #define REFERENCE_H
 
@@ -7,12 +8,12 @@
 
 enum { UNSEEN = 0, OPEN = 1, UNKNOWN = 2, LIVE = 3, DEAD = 4 };
 enum { NAMED = 1, TERMINAL = 2, CLOSED = 4 };
-enum { MOST_STATES = 2048, MOST_STEPS = 8192, NO_SUCCESSOR = 65535 };
+enum { MOST_STATES = 2048, MOST_STEPS = 8192, NO_SUCCESSOR = 65535, MOST_KEY = 31 };
 
-// 'E' a step from first to second, 'T' a terminal mark on first, 'C' a close of first.
+// 'E' a step from first to second by a key, 'T' a terminal mark on first, 'C' a close of first.
 typedef struct {
     uint8_t kind;
-    size_t first, second;
+    size_t first, second, key;
 } Update;
 
 // The updates that a run over n states accepted, and how many of them are steps.
@@ -37,8 +38,8 @@ int reference_can_live(History *h, size_t s, int updates);
 // The states that became live or dead between two tables of statuses, in rising order; answers their number.
 size_t reference_news(size_t n, const uint8_t *before, const uint8_t *after, uint16_t *news);
 
-// The number of the first test that applies, or 0: 1 to 4 of what is lent, 5 to 9 of what is sent, read off tables of any contents. What
-// is none of the three kinds is no update, and gets a malformed line's 11 before 5.
+// The number of the first test that applies, or 0: 1 to 4 of what is lent; 5, 14, 6 and 9, in this order, of what is sent, read off tables
+// of any contents. What is none of the three kinds is no update, and gets a malformed line's 11 before 5.
 int reference_lent(size_t n, size_t limit, size_t steps, int long_enough);
 int reference_sent(size_t n, size_t limit, size_t steps, const uint8_t *marks, Update u);
 

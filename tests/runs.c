@@ -36,7 +36,7 @@ int same_steps(const Lent *l, const History *h)
     for (size_t i = 0; i < h->count; i++) {
         Update u = h->accepted[i];
         if (u.kind != 'E') continue;
-        if (words(l, FROM)[p] != u.first || words(l, TO)[p] != u.second) return 0;
+        if (words(l, FROM)[p] != u.first || words(l, TO)[p] != u.second || bytes(l, KEY)[p] != u.key) return 0;
         p++;
     }
     return p == l->steps[1];
@@ -44,7 +44,7 @@ int same_steps(const Lent *l, const History *h)
 
 static void send(Run *r, char kind, size_t first, size_t second)
 {
-    if (!failed) r->send(r, (Update){(uint8_t)kind, first, second});
+    if (!failed) r->send(r, (Update){(uint8_t)kind, first, second, key_for((uint8_t)kind)});
 }
 
 // ---- every short list
@@ -66,34 +66,64 @@ void run_restore(Run *r, const SavedRun *s)
 Update nth_update(size_t numbers, size_t i)
 {
     size_t steps = numbers * numbers;
-    if (i < steps) return (Update){'E', i / numbers, i % numbers};
-    return (Update){i < steps + numbers ? 'T' : 'C', (i - steps) % numbers, 0};
+    if (i < steps) return (Update){'E', i / numbers, i % numbers, MOST_KEY - i};
+    return (Update){i < steps + numbers ? 'T' : 'C', (i - steps) % numbers, 0, MOST_KEY + 1};
 }
 
 size_t updates_over(size_t numbers) { return numbers * numbers + 2 * numbers; }
 
-static void every_longer_list(Run *r, size_t numbers, size_t depth, int first)
+static void every_longer_list(Run *r, const Update *all, size_t count, size_t depth, int first)
 {
     SavedRun here;
     if (depth == 0) return;
     run_save(r, &here);
-    for (size_t i = 0; i < updates_over(numbers) && !failed; i++) {
-        if (first) progress(i, updates_over(numbers));
-        r->send(r, nth_update(numbers, i));
-        every_longer_list(r, numbers, depth - 1, 0);
+    for (size_t i = 0; i < count && !failed; i++) {
+        if (first) progress(i, count);
+        r->send(r, all[i]);
+        every_longer_list(r, all, count, depth - 1, 0);
         run_restore(r, &here);
     }
 }
 
+enum { MOST_NUMBERS = 4, LIST_KEYS = 4, MOST_SENT = LIST_KEYS * MOST_NUMBERS * MOST_NUMBERS + 2 * MOST_NUMBERS };
+
 void every_list(Run *r, size_t n, size_t limit, size_t depth, size_t numbers)
 {
+    Update all[MOST_SENT];
+    for (size_t i = 0; i < updates_over(numbers); i++) all[i] = nth_update(numbers, i);
     run_start(r, n, limit);
-    every_longer_list(r, numbers, depth, 1);
+    every_longer_list(r, all, updates_over(numbers), depth, 1);
+}
+
+void every_keyed_list(Run *r, size_t n, size_t limit, size_t depth, size_t numbers)
+{
+    static const size_t keys[LIST_KEYS] = {0, MOST_KEY, MOST_KEY + 1, 256};    // in a byte 256 is the first again
+    Update all[MOST_SENT];
+    size_t count = 0;
+    for (size_t i = 0; i < updates_over(numbers); i++) {
+        Update u = nth_update(numbers, i);
+        for (size_t k = 0; k < (u.kind == 'E' ? LIST_KEYS : 1); k++) u.key = keys[k], all[count++] = u;
+    }
+    run_start(r, n, limit);
+    every_longer_list(r, all, count, depth, 1);
 }
 
 // ---- random runs
 
 size_t target(size_t n, size_t source, size_t near) { return near ? (source + 1 + below(near)) % n : below(n); }
+
+size_t some_key(void) { return one_in(3) ? MOST_KEY * below(2) : below(MOST_KEY + 1); }
+
+size_t far_key(void)
+{
+    static const size_t far[] = {
+        32, 33, 63, 64, 127, 128, 255, 256, 287, 511, 65535, 65536, 65567, 0xffffffff, 0x100000000, 0x10000001f, SIZE_MAX / 2 + 1,
+        SIZE_MAX - 31, SIZE_MAX,
+    };
+    return far[below(sizeof far / sizeof *far)];
+}
+
+size_t key_for(uint8_t kind) { return kind != 'E' && one_in(8) ? far_key() : some_key(); }
 
 void random_history(History *h, size_t n, size_t limit, size_t updates, int legal)
 {
@@ -102,7 +132,7 @@ void random_history(History *h, size_t n, size_t limit, size_t updates, int lega
     history_start(h, n, limit);
     for (size_t i = 0; i < updates; i++) {
         size_t kind = below(steps + terminals + closes);
-        Update u = {kind < steps ? 'E' : kind < steps + terminals ? 'T' : 'C', below(n), 0};
+        Update u = {kind < steps ? 'E' : kind < steps + terminals ? 'T' : 'C', below(n), 0, some_key()};
         if (u.kind == 'T' && !one_in(1 + n / 8)) u.kind = 'E';
         if (updates > 1 && i + 2 == updates) u.kind = 'C';
         if (updates > 1 && i + 1 == updates) u = h->accepted[h->count - 1];    // the close before it, again
@@ -127,10 +157,11 @@ void mixed_run(Run *r, size_t n, size_t limit, size_t updates)
     run_start(r, n, limit);
     for (size_t i = 0; i < updates && !failed; i++) {
         size_t kind = below(steps + terminals + closes);
-        Update u = {kind < steps ? 'E' : kind < steps + terminals ? 'T' : 'C', below(n), 0};
+        Update u = {kind < steps ? 'E' : kind < steps + terminals ? 'T' : 'C', below(n), 0, 0};
         if (terminals && n > 64 && u.kind == 'T' && !one_in(n / 16)) u.kind = 'E';
         if (u.kind == 'C' && order) u.first = order == 1 ? i * n / updates : n - 1 - i * n / updates;
         u.second = target(n, u.first, near);
+        u.key = wild && one_in(wild) ? far_key() : key_for(u.kind);
         if (wild && one_in(wild)) *(one_in(2) ? &u.first : &u.second) = n + below(one_in(2) ? 3 : 70000);
         r->send(r, u);
     }
@@ -224,8 +255,8 @@ Update shown_update;
 
 static void show_update(Update u)
 {
-    if (u.kind == 'E') printf(" E %zu %zu", u.first, u.second);
-    else if (u.kind == 'T' || u.kind == 'C') printf(" %c %zu -", u.kind, u.first);
+    if (u.kind == 'E') printf(" E %zu %zu %zu", u.first, u.second, u.key);
+    else if (u.kind == 'T' || u.kind == 'C') printf(" %c %zu - -", u.kind, u.first);
     else printf(" of kind %u", u.kind);
 }
 

@@ -31,15 +31,23 @@ typedef struct {
 void run_save(const Run *r, SavedRun *s);
 void run_restore(Run *r, const SavedRun *s);
 
-// The nth update over these state numbers: steps, then terminal marks, then closes; and how many there are.
+// The nth update over these state numbers: steps, each by a key of its own, then terminal marks, then closes; and how many there are.
 Update nth_update(size_t numbers, size_t i);
 size_t updates_over(size_t numbers);
 
-// Every list of up to `depth` updates; the state numbers sent are below `numbers`, and those from n on are out of range.
+// Every list of up to `depth` updates; the state numbers sent are below `numbers`, and those from n on are out of range. The second sends
+// each step by each of a few keys, above 31 too.
 void every_list(Run *r, size_t n, size_t limit, size_t depth, size_t numbers);
+void every_keyed_list(Run *r, size_t n, size_t limit, size_t depth, size_t numbers);
 
 // Targets of steps: anywhere, or near their source.
 size_t target(size_t n, size_t source, size_t near);
+
+// Keys: in bounds, the first and the last more often than others; and above, most of them in bounds in a byte, or in 16 or 32 bits. An
+// update has one that is in bounds for a step; to marks and closes it means nothing.
+size_t some_key(void);
+size_t far_key(void);
+size_t key_for(uint8_t kind);
 
 // A history of up to so many updates, in random proportions, the last close again at its end; a legal one has at most `limit` steps, and
 // none is refused.
@@ -47,7 +55,7 @@ void random_history(History *h, size_t n, size_t limit, size_t updates, int lega
 
 // Each of the runs below ends with a close that comes again.
 
-// Updates in random proportions; closes at random, by rising or by falling state; now and then a state out of range.
+// Updates in random proportions; closes at random, by rising or by falling state; now and then a state or a key out of range.
 void mixed_run(Run *r, size_t n, size_t limit, size_t updates);
 
 // A ring or a line whose states are closed one after the other (how: rising, falling, shuffled): long chains of successors, and many

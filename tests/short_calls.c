@@ -40,7 +40,7 @@ static const char *const check_names[CHECKS] = {
     "status question",
     "table check",
     "record writer",
-    "the examples of document 01",
+    "the examples of document 01, and steps by keys",
 };
 
 static unsigned long sent, refused, laid;
@@ -66,6 +66,7 @@ static unsigned char *table_at(const radvoinis_tables *t, Name k)
         [MARKS] = t->marks,
         [FROM] = (unsigned char *)t->from,
         [TO] = (unsigned char *)t->to,
+        [KEY] = t->key,
         [SUCCESSOR] = (unsigned char *)t->successor,
         [NEWS] = (unsigned char *)t->news,
         [IN_HEAD] = (unsigned char *)t->in_head,
@@ -155,7 +156,7 @@ static void lay_out(size_t n, size_t limit, size_t more)
     lent_size(raw, n, limit, 0);
     lent_fresh(raw);
     memset(raw->table[FROM].at, 0, table_bytes(FROM)), memset(raw->table[TO].at, 0, table_bytes(TO));
-    memset(raw->table[NEWS].at, 0, table_bytes(NEWS));
+    memset(raw->table[KEY].at, 0, table_bytes(KEY)), memset(raw->table[NEWS].at, 0, table_bytes(NEWS));
     size_t size = size_of((uint32_t)n, (uint32_t)limit) + more, shift = below(2);
     table_place(&memory, size + shift, (Side)below(2));
     begin = memory.at + shift;
@@ -173,7 +174,7 @@ static void group_sizes(void)
     shown_lent = NULL;
     for (size_t i = 0; i < EDGES * EDGES && !failed; i++) {
         uint32_t n = edge32(i / EDGES), limit = edge32(i % EDGES);
-        size_t size = size_of(n, limit), needed = (size_t)n * 14 + (size_t)limit * 8;
+        size_t size = size_of(n, limit), needed = (size_t)n * 14 + (size_t)limit * 9;
         check(CHECK_SIZE, bounded(n, limit) ? size >= needed && size <= needed + 64 : size == 0);
     }
     check(CHECK_SIZE, size_of(MOST_STATES, MOST_STEPS) <= memory.area_bytes - 64);
@@ -211,11 +212,16 @@ static void group_fresh(void)
 
 // ---- the calls beside each other
 
+static uint32_t short_step(uint32_t from, uint32_t to, uint32_t key)
+{
+    return key == 0 && one_in(2) ? radvoinis_step(&held.t, from, to) : radvoinis_step_by_key(&held.t, from, to, key);
+}
+
 static uint32_t short_update(Update u)
 {
     uint32_t first = (uint32_t)u.first, second = (uint32_t)u.second;
     call_begin();
-    uint32_t answer = u.kind == 'E'   ? radvoinis_step(&held.t, first, second)
+    uint32_t answer = u.kind == 'E'   ? short_step(first, second, (uint32_t)u.key)
                       : u.kind == 'T' ? radvoinis_terminal(&held.t, first)
                                       : radvoinis_close(&held.t, first);
     call_end();
@@ -268,9 +274,9 @@ static void audit_beside(int in_bounds)
 {
     keep();
     uint32_t want = radvoinis_audit(raw->n, raw->limit, raw->steps[1], bytes(raw, STATUS), raw->n, bytes(raw, MARKS), raw->n, words(raw, FROM),
-                                    raw->limit, words(raw, TO), raw->limit, words(raw, SUCCESSOR), raw->n, words(raw, IN_HEAD), raw->n,
-                                    words(raw, OUT_HEAD), raw->n, words(raw, QUEUE), raw->n, words(raw, VISITED), raw->n,
-                                    words(raw, IN_NEXT), raw->limit, words(raw, OUT_NEXT), raw->limit);
+                                    raw->limit, words(raw, TO), raw->limit, bytes(raw, KEY), raw->limit, words(raw, SUCCESSOR), raw->n,
+                                    words(raw, IN_HEAD), raw->n, words(raw, OUT_HEAD), raw->n, words(raw, QUEUE), raw->n,
+                                    words(raw, VISITED), raw->n, words(raw, IN_NEXT), raw->limit, words(raw, OUT_NEXT), raw->limit);
     call_begin();
     uint32_t answer = radvoinis_check(&held.t);
     call_end();
@@ -281,7 +287,7 @@ static void audit_beside(int in_bounds)
 static uint32_t raw_write(uint8_t *buf, size_t len, size_t *at)
 {
     return radvoinis_write(raw->n, raw->limit, raw->steps[1], bytes(raw, MARKS), raw->n, words(raw, FROM), raw->limit, words(raw, TO),
-                           raw->limit, buf, len, at);
+                           raw->limit, bytes(raw, KEY), raw->limit, buf, len, at);
 }
 
 // The writer, from a place in a buffer that just fits, or is one byte short.
@@ -317,7 +323,7 @@ static void all_beside(int in_bounds)
 
 static void send_both(Run *r, Update u)
 {
-    if (u.first > UINT32_MAX || u.second > UINT32_MAX) return;
+    if (u.first > UINT32_MAX || u.second > UINT32_MAX || (u.kind == 'E' && u.key > UINT32_MAX)) return;
     if (r->history.count == 0) lay_out(raw->n, raw->limit, 0);
     shown_history = &r->history;
     if (send_beside(u, 1)) history_add(&r->history, u);
@@ -337,7 +343,7 @@ static void group_runs_large(void)
     full_list_run(&run, 3);
 }
 
-// The examples of document 01 that name their verdicts, as an explorer sends them.
+// The examples of document 01 that name their verdicts, and steps by keys, as an explorer sends them.
 static void group_examples(void)
 {
     shown_lent = NULL;
@@ -352,7 +358,14 @@ static void group_examples(void)
     check(CHECK_EXAMPLE, radvoinis_terminal(t, 2) == 3 && t->news[0] == 0 && t->news[1] == 1 && t->news[2] == 2);
     check(CHECK_EXAMPLE, radvoinis_status_of(t, 0) == RADVOINIS_LIVE && radvoinis_status_of(t, 3) == RADVOINIS_REFUSED + 5);
     check(CHECK_EXAMPLE, t->marks[2] == (RADVOINIS_NAMED | RADVOINIS_TERMINAL) && t->marks[0] == (RADVOINIS_NAMED | RADVOINIS_CLOSED));
-    check(CHECK_EXAMPLE, t->steps == 3 && t->from[2] == 1 && t->to[2] == 2 && radvoinis_check(t) == 1);
+    check(CHECK_EXAMPLE, t->steps == 3 && t->from[2] == 1 && t->to[2] == 2 && t->key[2] == 0 && radvoinis_check(t) == 1);
+    check(CHECK_EXAMPLE, radvoinis_step_by_key(t, 0, 3, 32) == RADVOINIS_REFUSED + RADVOINIS_OUT_OF_RANGE);
+    check(CHECK_EXAMPLE, radvoinis_step_by_key(t, 0, 2, 32) == RADVOINIS_REFUSED + RADVOINIS_BAD_KEY);
+    check(CHECK_EXAMPLE, radvoinis_step_by_key(t, 0, 2, RADVOINIS_MAX_KEY) == RADVOINIS_REFUSED + RADVOINIS_CLOSED_SOURCE);
+    check(CHECK_EXAMPLE, radvoinis_step_by_key(t, 2, 0, RADVOINIS_MAX_KEY) == 0 && t->steps == 4 && t->key[3] == 31);
+    check(CHECK_EXAMPLE, radvoinis_step_by_key(t, 2, 0, 30) == RADVOINIS_REFUSED + RADVOINIS_LIST_FULL && radvoinis_check(t) == 1);
+    t->key[3] = 32;
+    check(CHECK_EXAMPLE, radvoinis_check(t) == 0);
 }
 
 // ---- any contents and numbers
@@ -371,6 +384,7 @@ static Update some_update(void)
     if (one_in(16)) u.second += 65536 * below(4);
     if (u.first > UINT32_MAX) u.first = UINT32_MAX;
     if (u.second > UINT32_MAX) u.second = UINT32_MAX;
+    if (u.key > UINT32_MAX) u.key = UINT32_MAX;
     u.kind = kinds[below(3)];
     return u;
 }
@@ -398,7 +412,7 @@ static void group_numbers(void)
         if (n >= 1 && n <= MOST_STATES && limit >= 1 && limit <= MOST_STEPS) n = 0;
         lay_out(3, 4, 0);
         held.t.n = raw->n = n, held.t.limit = raw->limit = limit, held.t.steps = raw->steps[1] = one_in(2) ? edges[below(EDGES)] : 0;
-        for (size_t k = 0; k < 6 && !failed; k++) send_beside((Update){"ETC"[k % 3], below(3), below(3)}, 0);
+        for (size_t k = 0; k < 6 && !failed; k++) send_beside((Update){"ETC"[k % 3], below(3), below(3), below(40)}, 0);
         ask_beside((uint32_t)below(3), 0);
         audit_beside(0);
         save_beside(0);
@@ -406,7 +420,7 @@ static void group_numbers(void)
     for (size_t i = 0; i < EDGES && !failed; i++) {
         lay_out(3, 4, 0);
         held.t.steps = raw->steps[1] = edges[i];
-        for (size_t k = 0; k < 6 && !failed; k++) send_beside((Update){"ETC"[k % 3], below(4), below(4)}, 1);
+        for (size_t k = 0; k < 6 && !failed; k++) send_beside((Update){"ETC"[k % 3], below(4), below(4), below(40)}, 1);
         ask_beside((uint32_t)below(4), 1);
         audit_beside(1);
         save_beside(1);
@@ -433,6 +447,6 @@ int main(int argc, char **argv)
 {
     static const Suite suite = {groups, sizeof groups / sizeof *groups, check_names, CHECKS, show_run, show_counts};
     lent_make(&lent_a);
-    table_make(&memory, 1, 14 * MOST_STATES + 8 * MOST_STEPS + 256);
+    table_make(&memory, 1, 14 * MOST_STATES + 9 * MOST_STEPS + 256);
     return suite_run(&suite, argc, argv);
 }

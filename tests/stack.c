@@ -7,7 +7,7 @@
 #include <string.h>
 #include <ucontext.h>
 
-enum { STACK = 1 << 18, PAINT = 0xa5, STATUS_STACK = 46 << 10, OTHER_STACK = 1 << 10 };
+enum { STACK = 1 << 18, PAINT = 0xa5, STATUS_STACK = 48 << 10, OTHER_STACK = 1 << 10 };
 
 static unsigned char *stack;
 static ucontext_t caller, callee;
@@ -16,11 +16,12 @@ static radvoinis_tables t;
 static void nothing(void) {}
 static void status(void)
 {
-    static const char ring[] = "kind from to\nE 0 1\nE 1 0\nE 1 2\nC 0 -\nC 1 -\nE 2047 65535\nC 2 -\n";
+    static const char ring[] = "kind from to key\nE 0 1 7\nE 1 0 8\nE 1 2 31\nC 0 - -\nC 1 - -\nC 2 - -\nE 2047 65535 32\n";
     radvoinis_status((const uint8_t *)ring, sizeof ring - 1, 1);
 }
 static void size_of(void) { radvoinis_tables_size(3, 4); }
 static void step(void) { radvoinis_step(&t, 1, 2); }
+static void step_by_key(void) { radvoinis_step_by_key(&t, 1, 2, 31); }
 static void terminal(void) { radvoinis_terminal(&t, 2); }
 static void last_close(void) { radvoinis_close(&t, 2); }
 static void question(void) { radvoinis_status_of(&t, 2); }
@@ -55,10 +56,11 @@ int main(void)
         void (*call)(void);
         size_t most;
     } calls[] = {
-        {"radvoinis_status", status, STATUS_STACK},       {"radvoinis_step", step, OTHER_STACK},
-        {"radvoinis_terminal", terminal, OTHER_STACK},    {"radvoinis_close", last_close, OTHER_STACK},
-        {"radvoinis_status_of", question, OTHER_STACK},   {"radvoinis_check", check, OTHER_STACK},
-        {"radvoinis_save", save, OTHER_STACK},            {"radvoinis_tables_size", size_of, OTHER_STACK},
+        {"radvoinis_status", status, STATUS_STACK},             {"radvoinis_step", step, OTHER_STACK},
+        {"radvoinis_step_by_key", step_by_key, OTHER_STACK},    {"radvoinis_terminal", terminal, OTHER_STACK},
+        {"radvoinis_close", last_close, OTHER_STACK},           {"radvoinis_status_of", question, OTHER_STACK},
+        {"radvoinis_check", check, OTHER_STACK},                {"radvoinis_save", save, OTHER_STACK},
+        {"radvoinis_tables_size", size_of, OTHER_STACK},
     };
     static uint8_t memory[256];
     int kept = 1;
@@ -70,7 +72,7 @@ int main(void)
         if (radvoinis_tables_fresh(&t, memory, sizeof memory, 3, 4) != 0) return 1;
         radvoinis_step(&t, 0, 1), radvoinis_step(&t, 1, 0), radvoinis_step(&t, 1, 2);
         radvoinis_close(&t, 0);
-        if (calls[i].call != step) radvoinis_close(&t, 1);
+        if (calls[i].call != step && calls[i].call != step_by_key) radvoinis_close(&t, 1);
         size_t bytes = depth_of(calls[i].call) - around;
         printf("%s: %zu bytes\n", calls[i].name, bytes);
         if (bytes > calls[i].most) kept = 0;

@@ -51,7 +51,8 @@ size_t wild_entry(const Lent *l, Name k)
     if (how == 0) return (size_t)random_word();
     if (how == 1) return below(l->n + 2);
     if (how == 2) return below(l->limit + 3);
-    return k <= MARKS ? below(8) : special[below(9)];
+    if (k == KEY) return below(MOST_KEY + 3);
+    return lent_width(k) == 1 ? below(8) : special[below(9)];
 }
 
 void wild_contents(Lent *l)
@@ -66,7 +67,8 @@ void wild_contents(Lent *l)
 Update wild_update(const Lent *l)
 {
     size_t n = l->n ? l->n : 1;
-    Update u = {"ETC"[below(3)], below(n), below(n)};
+    Update u = {"EEECCT"[below(6)], below(n), below(n), some_key()};
+    if (one_in(20)) u.key = far_key();
     if (one_in(20)) u.first = l->n + below(3);
     if (one_in(20)) u.second = l->n + below(70000);
     return u;
@@ -75,8 +77,9 @@ Update wild_update(const Lent *l)
 void wild_overwrite(Lent *l, size_t entries)
 {
     while (entries-- > 0) {
-        Name k = (Name)below(TABLES);
-        table_set(&l->table[k], below(lent_needed(l, k)), wild_entry(l, k));
+        int listed = l->steps[1] > 0 && one_in(2);
+        Name k = listed ? (Name)(FROM + below(2)) : (Name)below(TABLES);
+        table_set(&l->table[k], below(listed ? l->steps[1] : lent_needed(l, k)), wild_entry(l, k));
     }
 }
 

@@ -24,7 +24,7 @@ void wild_told(Lent *l);
 size_t wild_entry(const Lent *l, Name k);
 void wild_contents(Lent *l);
 
-// An update that is mostly in range.
+// An update that is mostly in range, steps and closes more often than terminal marks.
 Update wild_update(const Lent *l);
 
 // Calls on fresh tables each of which in turn is too short by one or empty, with a number of steps within the limit and above it.
@@ -36,7 +36,7 @@ void each_value(Lent *l, size_t n, size_t limit, void (*call)(Lent *l));
 // Both, for small tables and for the largest.
 void each_refusal(Lent *l, void (*shortened)(Lent *l), void (*valued)(Lent *l));
 
-// Overwrites so many entries at random among those needed.
+// Overwrites so many entries at random among those needed, ends of listed steps more often than others.
 void wild_overwrite(Lent *l, size_t entries);
 
 #endif

@@ -20,6 +20,7 @@ checked {g} {t} {answer} {queue} {visited} a =
       marks = refl;
       from = refl;
       to = refl;
+      key = refl;
       successor = refl;
       news = refl;
       sizes = rw (a .queue .size, a .visited .size);

@@ -9,12 +9,14 @@ use native.Mathlib.Omega.{arith}
 use native.Mathlib.Decide.{ℕ-discrete}
 use lib.Dec.{eqb}
 use lib.ListN.{length, getD}
-use borrow.Author.Tests.{eqb-true}
+use borrow.Author.Tests.{eqb-true, leb-true}
+use Rattle.gid.specs.declared.Edge.{Edge}
 use Rattle.gid.specs.declared.Update.{Update}
 use Rattle.gid.specs.declared.Update.the-variants.{Step, Terminal, Close}
 use Rattle.gid.specs.Updates.{Mentions}
 use Rattle.gid.specs.Histories.{History, Has, IsTerminal, IsClosed, IsNamed}
 use Rattle.gid.specs.Verdicts.{Live, DeadByReach}
+use Rattle.gid.specs.Refusals.{maxKey}
 use Rattle.gid.specs.Statuses.{isNamed, isTerminal, isClosed, status, statusOpen, statusUnknown, statusLive, statusDead}
 use Rattle.gid.specs.Successors.{Chain, ends as chain-ends, follows as chain-follows, Having, SuccessorRule}
 use Rattle.gid.proofs.Decide.{same-test}
@@ -33,10 +35,10 @@ use Rattle.adjacency.specs.Walks.{now′}
 use Rattle.adjacency.proofs.Walks.{linked, clamp-keeps, last-inside}
 use Rattle.search.specs.declared.spread.Mode.the-variants.{Tree, Claimed}
 use Rattle.search.specs.Spreading.{Reached, start, back}
-use Rattle.audit.specs.Facts.{Passes, starts, startsAt, Backed, stepsInto, TableFacts}
+use Rattle.audit.specs.Facts.{Passes, starts, startsAt, Backed, stepsInto, keyFits, TableFacts}
 use Rattle.audit.proofs.Reading.{Suited, as-unseen, as-open, as-unknown, as-dead, as-live, suited-low, suited-terminal, suited-closed, suited-byte, decides-same, both-true, StateFacts, decides-state, StepFacts, decides-step}
 use Rattle.audit.proofs.Gathering.{reached-range}
-use Rattle.audit.proofs.Canonical.{canonical, canonical-terminal, canonical-closed, terminal-canonical, closed-canonical, canonical-lists}
+use Rattle.audit.proofs.Canonical.{canonical, canonical-terminal, canonical-closed, terminal-canonical, closed-canonical, canonical-lists, canonical-keys, canonical-key}
 
 -- a list of steps that is not empty has a step
 last-step : {n m : ℕ} {ends head next : List ℕ} → ListRule n m ends head next → (v : ℕ) → v < n → (getD head v 0 ≡ 0 → ⊥) → (p : ℕ) × (p < m) × (getD ends p 0 ≡ v)
@@ -55,9 +57,9 @@ closedOf t s = hasClosed (getD (t .marks) s 0)
 
 -- The history of the tables.
 abbrev pub canonicalOf : Graph → Tables → History
-canonicalOf g t = canonical (g .n) (g .steps) (t .from) (t .to) (terminalOf t) (closedOf t)
+canonicalOf g t = canonical (g .n) (g .steps) (t .from) (t .to) (t .key) (terminalOf t) (closedOf t)
 
-module _ (g : Graph) (t : Tables) (f : TableFacts (g .n) (g .steps) t) (inFrom : g .steps ≤ length (t .from)) (inTo : g .steps ≤ length (t .to)) where
+module _ (g : Graph) (t : Tables) (f : TableFacts (g .n) (g .steps) t) (inFrom : g .steps ≤ length (t .from)) (inTo : g .steps ≤ length (t .to)) (inKey : g .steps ≤ length (t .key)) where
   state : (s : ℕ) → s < g .n → StateFacts (g .steps) (t .status) (t .marks) (t .from) (t .successor) (t .inHead) (t .outHead) (t .visited) s
   state s h = decides-state (g .steps) (t .status) (t .marks) (t .from) (t .successor) (t .inHead) (t .outHead) (t .visited) s .sound (f .states s h)
 
@@ -66,27 +68,27 @@ module _ (g : Graph) (t : Tables) (f : TableFacts (g .n) (g .steps) t) (inFrom :
 
   -- The steps, marks and closes of the history, as the tables have them.
   lists : ListsSteps (canonicalOf g t) (g .steps) (t .from) (t .to)
-  lists = canonical-lists (g .n) (g .steps) (t .from) (t .to) (terminalOf t) (closedOf t) inFrom inTo
+  lists = canonical-lists (g .n) (g .steps) (t .from) (t .to) (t .key) (terminalOf t) (closedOf t) inFrom inTo
 
   has-terminal : {s : ℕ} → IsTerminal (canonicalOf g t) s → (s < g .n) × (terminalOf t s ≡ true)
-  has-terminal = terminal-canonical (g .n) (g .steps) (t .from) (t .to) (terminalOf t) (closedOf t)
+  has-terminal = terminal-canonical (g .n) (g .steps) (t .from) (t .to) (t .key) (terminalOf t) (closedOf t)
 
   has-closed : {s : ℕ} → IsClosed (canonicalOf g t) s → (s < g .n) × (closedOf t s ≡ true)
-  has-closed = closed-canonical (g .n) (g .steps) (t .from) (t .to) (terminalOf t) (closedOf t)
+  has-closed = closed-canonical (g .n) (g .steps) (t .from) (t .to) (t .key) (terminalOf t) (closedOf t)
 
   is-terminal : (s : ℕ) → s < g .n → terminalOf t s ≡ true → IsTerminal (canonicalOf g t) s
-  is-terminal = canonical-terminal (g .n) (g .steps) (t .from) (t .to) (terminalOf t) (closedOf t)
+  is-terminal = canonical-terminal (g .n) (g .steps) (t .from) (t .to) (t .key) (terminalOf t) (closedOf t)
 
   is-closed : (s : ℕ) → s < g .n → closedOf t s ≡ true → IsClosed (canonicalOf g t) s
-  is-closed = canonical-closed (g .n) (g .steps) (t .from) (t .to) (terminalOf t) (closedOf t)
+  is-closed = canonical-closed (g .n) (g .steps) (t .from) (t .to) (t .key) (terminalOf t) (closedOf t)
 
   -- Its named states are those with the mark.
   has-named : {s : ℕ} → IsNamed (canonicalOf g t) s → (s < g .n) × (hasNamed (getD (t .marks) s 0) ≡ true)
   has-named {s} (x, q, e) = at x q e
     where
       at : (y : Update) → Has (canonicalOf g t) y → Mentions y s → (s < g .n) × (hasNamed (getD (t .marks) s 0) ≡ true)
-      at (Step e) k (inl z) = let r = step-in-list lists (e .from) (e .to) k in let w = step (r .0) (r .1 .0) in rw (← z, ← (r .1 .1)) (w .source, w .sourceNamed)
-      at (Step e) k (inr z) = let r = step-in-list lists (e .from) (e .to) k in let w = step (r .0) (r .1 .0) in rw (← z, ← (r .1 .2)) (w .target, w .targetNamed)
+      at (Step e) k (inl z) = let r = step-in-list lists (e .from) (e .to) (e .key, k) in let w = step (r .0) (r .1 .0) in rw (← z, ← (r .1 .1)) (w .source, w .sourceNamed)
+      at (Step e) k (inr z) = let r = step-in-list lists (e .from) (e .to) (e .key, k) in let w = step (r .0) (r .1 .0) in rw (← z, ← (r .1 .2)) (w .target, w .targetNamed)
       at (Terminal u) k z = let r = has-terminal k in rw (← z) (r .0, suited-terminal (state u (r .0) .suited) (r .1) .1)
       at (Close u) k z = let r = has-closed k in rw (← z) (r .0, suited-closed (state u (r .0) .suited) (r .1))
 
@@ -97,8 +99,8 @@ module _ (g : Graph) (t : Tables) (f : TableFacts (g .n) (g .steps) t) (inFrom :
       -- with no other mark, one of the lists is not empty
       ends-here : getD (t .marks) s 0 ≡ 1 → Dec (getD (t .inHead) s 0 ≡ 0) → Dec (getD (t .outHead) s 0 ≡ 0) → IsNamed (canonicalOf g t) s
       ends-here one (yes i) (yes o) = absurd (state s h .named one i o)
-      ends-here one (no i) k = let r = last-step (f .into) s h i in (Step _, list-has-step lists (r .1, refl, refl), inr (r .2))
-      ends-here one (yes i) (no o) = let r = last-step (f .outOf) s h o in (Step _, list-has-step lists (r .1, refl, refl), inl (r .2))
+      ends-here one (no i) k = let r = last-step (f .into) s h i in let q = list-has-step lists (r .1, refl, refl) in (Step _, q .1, inr (r .2))
+      ends-here one (yes i) (no o) = let r = last-step (f .outOf) s h o in let q = list-has-step lists (r .1, refl, refl) in (Step _, q .1, inl (r .2))
 
       at : (a b : Bool) → terminalOf t s ≡ a → closedOf t s ≡ b → IsNamed (canonicalOf g t) s
       at true b p q = (Terminal s, is-terminal s h p, refl)
@@ -195,15 +197,23 @@ module _ (g : Graph) (t : Tables) (f : TableFacts (g .n) (g .steps) t) (inFrom :
           let a : StepAt (g .steps) (t .from) (t .to) w (getD (t .successor) w 0) v = rw (eqb-true (getD (t .successor) w 0) i (y .1)) (search-step r l) in
           (suc (c .0), chain-follows (b, eqb-true (getD (t .status) w 0) statusUnknown (y .0)) a (c .1))
 
+  key-range : (e : Edge) → Has (canonicalOf g t) (Step e) → e .key ≤ maxKey
+  unfolding keyFits
+  key-range e q =
+      let r = canonical-key (g .n) (g .steps) (t .from) (t .to) (t .key) (terminalOf t) (closedOf t) q in
+      rw (r .2) (leb-true (getD (t .key) (r .0) 0) maxKey (f .keys (r .0) (r .1)))
+
   -- The canonical history gives the tables.
   pub founded : Consistent (canonicalOf g t) g t
   founded =
       record {
         inRange = λ s q. has-named q .0;
+        keysInRange = key-range;
         marks = marks-given;
         steps = lists .count;
         from = lists .froms;
         to = lists .tos;
+        key = canonical-keys (g .n) (g .steps) (t .from) (t .to) (t .key) (terminalOf t) (closedOf t) inKey;
         status = statuses-given;
         successor = successors-given;
         into = f .into;

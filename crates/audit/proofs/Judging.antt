@@ -19,7 +19,7 @@ use Rattle.tables.proofs.Refusing.{Lent, lent-leaves, lent-passes, lent-refuses
 use Rattle.tables.specs.Keeping.{Kept, KeptVisited}
 use Rattle.tables.proofs.Keeping.{kept-none, kept-trans}
 use Rattle.audit.specs.declared.answer.Audit.the-variants.{Fits as Yes, Unfit as No, Refused}
-use Rattle.audit.specs.Facts.{All, stateFits, stepFits, stepsInto, TableFacts}
+use Rattle.audit.specs.Facts.{All, stateFits, stepFits, keyFits, stepsInto, TableFacts}
 use Rattle.audit.specs.Parts.{Below, ListFits, Answered, Claims, Judged}
 use Rattle.audit.specs.Audited.{auditRefusal, Audited}
 use Rattle.audit.proofs.Reading.{StepFacts, decides-state, decides-step}
@@ -28,9 +28,9 @@ use Rattle.audit.proofs.Founding.{canonicalOf, founded}
 use Rattle.audit.proofs.Meeting.{met}
 
 -- Tables fit exactly where the facts hold: "some legal history gives" them.
-pub facts-fit : (g : Graph) (t : Tables) → g .steps ≤ length (t .from) → g .steps ≤ length (t .to) → TableFacts (g .n) (g .steps) t ↔ Fits g t
-facts-fit g t a b = (
-  λ f. (canonicalOf g t, canonical-legal (g .n) (g .steps) (t .from) (t .to) (λ s. hasTerminal (getD (t .marks) s 0)) (λ s. hasClosed (getD (t .marks) s 0)), founded g t f a b),
+pub facts-fit : (g : Graph) (t : Tables) → g .steps ≤ length (t .from) → g .steps ≤ length (t .to) → g .steps ≤ length (t .key) → TableFacts (g .n) (g .steps) t ↔ Fits g t
+facts-fit g t a b c = (
+  λ f. (canonicalOf g t, canonical-legal (g .n) (g .steps) (t .from) (t .to) (t .key) (λ s. hasTerminal (getD (t .marks) s 0)) (λ s. hasClosed (getD (t .marks) s 0)), founded g t f a b c),
   λ q. met (q .2),
 )
 
@@ -50,17 +50,18 @@ denied f q v = record { exact = (λ e. absurd (false≢true e), λ t. absurd (f 
 
 -- The last part decides where all others passed.
 pub judged :
-    {n m : ℕ} (t : Tables) {a b c d r : Bool} {queue₁ queue₂ queue visited : List ℕ} →
+    {n m : ℕ} (t : Tables) {a b k c d r : Bool} {queue₁ queue₂ queue visited : List ℕ} →
     (a ≡ true) ↔ All n (stateFits m (t .status) (t .marks) (t .from) (t .successor) (t .inHead) (t .outHead) (t .visited)) → a ≡ true →
     (b ≡ true) ↔ All m (λ p. stepFits n (t .status) (t .marks) (getD (t .from) p 0) (getD (t .to) p 0)) → b ≡ true →
+    (k ≡ true) ↔ All m (λ p. keyFits (getD (t .key) p 0)) → k ≡ true →
     ListFits n m (t .to) (t .inHead) (t .inNext) (t .queue) queue₁ c → c ≡ true →
     ListFits n m (t .from) (t .outHead) (t .outNext) queue₁ queue₂ d → d ≡ true →
     Answered n (Claims n (stepsInto n m t) (t .status) (t .marks) (t .successor)) (t .visited) queue₂ visited queue r →
     Judged n m t r queue visited
-judged t states sa steps sb into sc outOf sd claims =
+judged t states sa steps sb keys sk into sc outOf sd claims =
     record {
       exact = (
-        λ e. record { states = states .0 sa; steps = steps .0 sb; into = into .exact .0 sc; outOf = outOf .exact .0 sd; lives = claims .exact .0 e .0; escapes = claims .exact .0 e .1 },
+        λ e. record { states = states .0 sa; steps = steps .0 sb; keys = keys .0 sk; into = into .exact .0 sc; outOf = outOf .exact .0 sd; lives = claims .exact .0 e .0; escapes = claims .exact .0 e .1 },
         λ f. claims .exact .1 (f .lives, f .escapes),
       );
       none = λ e. claims .none;
@@ -81,7 +82,7 @@ module _ (g : Graph) (t : Tables) where
     long-enough = long-fewer (leaves .room) (long-checked (g .n) (nodesOf g) (g .limit) t (leaves .longs))
 
     fits : TableFacts (g .n) (g .steps) t ↔ Fits g t
-    fits = facts-fit g t (long-enough .from) (long-enough .to)
+    fits = facts-fit g t (long-enough .from) (long-enough .to) (long-enough .key)
 
     none-refused : (k : ℕ) → auditRefusal g t ≡ some k → ⊥
     none-refused k e = let p = lent-passes g (enough (checkNeeds (g .n) (nodesOf g) (g .limit) (lengths t))) passed in let z : _≡_ {A = ℕ} 0 1 = cc in omega arith
@@ -100,10 +101,12 @@ module _ (g : Graph) (t : Tables) where
           still = λ e h c.
               record {
                 inRange = c .inRange;
+                keysInRange = c .keysInRange;
                 marks = c .marks;
                 steps = c .steps;
                 from = c .from;
                 to = c .to;
+                key = c .key;
                 status = c .status;
                 successor = c .successor;
                 into = c .into;

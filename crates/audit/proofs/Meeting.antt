@@ -7,7 +7,7 @@ use mathlib.Core.List.{List}
 use Prim.Native.Nat.{ℕ, _+_, _<_, _≤_}
 use native.Mathlib.Omega.{arith}
 use lib.ListN.{getD}
-use borrow.Author.Tests.{eq-eqb}
+use borrow.Author.Tests.{eq-eqb, le-leb}
 use Rattle.gid.specs.declared.Update.{Update}
 use Rattle.gid.specs.declared.Update.the-variants.{Step, Terminal, Close}
 use Rattle.gid.specs.Updates.{edge, Mentions}
@@ -16,6 +16,7 @@ use Rattle.gid.specs.Verdicts.{Reaches, here, along, Live}
 use Rattle.gid.specs.Statuses.{isNamed, isTerminal, isClosed, status, statusOpen, statusUnknown, statusLive}
 use Rattle.gid.specs.Successors.{Chain, ends as chain-ends, follows as chain-follows, Having}
 use Rattle.gid.proofs.Decide.{refutes}
+use Rattle.gid.specs.Refusals.{maxKey}
 use Rattle.gid.proofs.Tests.{decides-named, decides-terminal, decides-closed}
 use Rattle.gid.proofs.Deadness.{live-terminal, live-source, dead-closed, dead-target, dead-not-live}
 use Rattle.gid.proofs.Statuses.{live-named, closed-named, Classified, as-live as is-live, as-dead as is-dead, as-unknown as is-unknown, as-open as is-open, as-unseen as is-unseen, classified, status-live, status-dead-by-reach}
@@ -25,11 +26,11 @@ use Rattle.tables.specs.Marks.{hasNamed, hasTerminal, hasClosed}
 use Rattle.tables.specs.Work.{ListRule}
 use Rattle.tables.specs.Fitting.{StepAt, marksOf, Consistent}
 use Rattle.tables.proofs.Bits.{bits, byte, marks-bits, decides-closed-mark}
-use Rattle.tables.proofs.Listed.{lists-of, step-in-list, list-has-step}
+use Rattle.tables.proofs.Listed.{lists-of, step-in-list, list-has-step, listed-key}
 use Rattle.adjacency.proofs.Walks.{linked, meets-none, clamp-keeps}
 use Rattle.search.specs.declared.spread.Mode.the-variants.{Tree, Claimed}
 use Rattle.search.specs.Spreading.{start, back}
-use Rattle.audit.specs.Facts.{starts, Backed, stepsInto, TableFacts}
+use Rattle.audit.specs.Facts.{starts, Backed, stepsInto, keyFits, TableFacts}
 use Rattle.audit.proofs.Reading.{Suited, as-unseen, as-open, as-unknown, as-dead, as-live, StateFacts, decides-state, StepFacts, decides-step}
 
 -- The byte of each status.
@@ -87,8 +88,8 @@ module _ {h : History} {g : Graph} {t : Tables} (c : Consistent h g t) where
       unlisted r z {p} l y = meets-none (rw (z, clamp-keeps 0 (g .steps + 1) (omega arith)) at (linked r s k p .1 (l, y)))
 
       met : (x : Update) → Has h x → Mentions x s → ⊥
-      met (Step d) q (inl z) = let r = step-in-list (lists-of c) (d .from) (d .to) q in unlisted (c .outOf) o (r .1 .0) (r .1 .1 ∙ z)
-      met (Step d) q (inr z) = let r = step-in-list (lists-of c) (d .from) (d .to) q in unlisted (c .into) i (r .1 .0) (r .1 .2 ∙ z)
+      met (Step d) q (inl z) = let r = step-in-list (lists-of c) (d .from) (d .to) (d .key, q) in unlisted (c .outOf) o (r .1 .0) (r .1 .1 ∙ z)
+      met (Step d) q (inr z) = let r = step-in-list (lists-of c) (d .from) (d .to) (d .key, q) in unlisted (c .into) i (r .1 .0) (r .1 .2 ∙ z)
       met (Terminal u) q z = false≢true (rw e at (terminal-mark s k (subst (IsTerminal h) z q)))
       met (Close u) q z = false≢true (rw e at (closed-mark s k (subst (IsClosed h) z q)))
 
@@ -106,8 +107,8 @@ module _ {h : History} {g : Graph} {t : Tables} (c : Consistent h g t) where
       let u = getD (t .from) p 0 in
       let v = getD (t .to) p 0 in
       let q = list-has-step (lists-of c) (k, refl, refl) in
-      let a : IsNamed h u = (Step (edge u v), q, inl refl) in
-      let b : IsNamed h v = (Step (edge u v), q, inr refl) in
+      let a : IsNamed h u = (Step (edge u v (q .0)), q .1, inl refl) in
+      let b : IsNamed h v = (Step (edge u v (q .0)), q .1, inr refl) in
       let i = c .inRange u a in
       let j = c .inRange v b in
       record {
@@ -121,7 +122,9 @@ module _ {h : History} {g : Graph} {t : Tables} (c : Consistent h g t) where
 
   -- A walk over the steps into a state meets each of them.
   walked : {s p v : ℕ} → StepAt (g .steps) (t .from) (t .to) s p v → stepsInto (g .n) (g .steps) t s p v
-  walked {s} {p} {v} a = (linked (c .into) v (c .inRange v (Step (edge s v), list-has-step (lists-of c) a, inr refl)) p .1 (a .0, a .2), a .1)
+  walked {s} {p} {v} a =
+      let q = list-has-step (lists-of c) a in
+      (linked (c .into) v (c .inRange v (Step (edge s v (q .0)), q .1, inr refl)) p .1 (a .0, a .2), a .1)
 
   -- A live state is reached backwards from a terminal one, through live states.
   live-backed : {s v : ℕ} → Reaches h s v → IsTerminal h v → s < g .n → Backed (g .n) (stepsInto (g .n) (g .steps) t) Claimed statusLive (t .status) (t .marks) (t .successor) s
@@ -129,7 +132,7 @@ module _ {h : History} {g : Graph} {t : Tables} (c : Consistent h g t) where
   live-backed {s} here e k = start (k, terminal-mark s k e)
   live-backed {s} (along {v = w} q p) e k =
       let r = step-in-list (lists-of c) s w q in
-      back (live-backed p e (c .inRange w (Step (edge s w), q, inr refl))) (walked (r .1)) k
+      back (live-backed p e (c .inRange w (Step (edge s w (q .0)), q .1, inr refl))) (walked (r .1)) k
       (eq-eqb (getD (t .status) s 0) statusLive (c .status s k ∙ status-live h s .1 (_, along q p, e)))
 
   -- An unknown state is reached backwards from an open one, by successors.
@@ -141,10 +144,12 @@ module _ {h : History} {g : Graph} {t : Tables} (c : Consistent h g t) where
       back (chain-backed q) (walked a) k (rw (eq-eqb (getD (t .status) s 0) statusUnknown e) (eq-eqb p p refl))
 
   pub met : TableFacts (g .n) (g .steps) t
+  unfolding keyFits
   met =
       record {
         states = λ s k. decides-state (g .steps) (t .status) (t .marks) (t .from) (t .successor) (t .inHead) (t .outHead) (t .visited) s .complete (state s k);
         steps = λ p k. decides-step (g .n) (t .status) (t .marks) (getD (t .from) p 0) (getD (t .to) p 0) .complete (step p k);
+        keys = λ p k. le-leb (getD (t .key) p 0) maxKey (listed-key c p k);
         into = c .into;
         outOf = c .outOf;
         lives = λ s k e. let l = status-live h s .0 (sym (c .status s k) ∙ e) in live-backed (l .1) (l .2) k;

@@ -30,7 +30,7 @@ auditRefusal g t = first (lentRules g (enough (checkNeeds (g .n) (nodesOf g) (g 
 -- The tables after a check that left these in the queue and in the visited marks.
 abbrev pub afterCheck : Tables → List ℕ → List ℕ → Tables
 afterCheck t queue visited =
-    tablesOf (t .status) (t .marks) (t .from) (t .to) (t .successor) (t .news) (t .inHead) (t .outHead) queue visited (t .inNext) (t .outNext)
+    tablesOf (t .status) (t .marks) (t .from) (t .to) (t .key) (t .successor) (t .news) (t .inHead) (t .outHead) queue visited (t .inNext) (t .outNext)
 
 pub record Audited (g : Graph) (t : Tables) (answer : Audit) (queue′ visited′ : List ℕ) : Type 0 where
   -- Refused exactly by the tests 1 to 4, and then "nothing lent changes".

@@ -9,6 +9,7 @@ use lib.ListN.{getD}
 use Rattle.gid.specs.Statuses.{statusUnseen, statusOpen, statusUnknown, statusLive, statusDead}
 use Rattle.gid.specs.Successors.{noSuccessor}
 use Rattle.gid.specs.Systems.{Arcs}
+use Rattle.gid.specs.Refusals.{maxKey}
 use Rattle.tables.specs.Tables.{Tables}
 use Rattle.tables.specs.Marks.{hasNamed, hasTerminal}
 use Rattle.tables.specs.Work.{ListRule}
@@ -61,6 +62,10 @@ unfoldable pub stepFits : ℕ → (status marks : List ℕ) → ℕ → ℕ → 
 stepFits n status marks u v =
     ltb u n && (ltb v n && (bothNamed (getD marks u 0) (getD marks v 0) && agrees (getD status u 0) (getD status v 0)))
 
+-- A listed key: "0 to 31".
+unfoldable pub keyFits : ℕ → Bool
+keyFits k = leb k maxKey
+
 -- From which states a verdict is spread backwards: live from the terminal states, unknown from the open ones.
 unfoldable pub starts : ℕ → ℕ → ℕ → Bool
 starts verdict status mark = cond (eqb verdict statusLive) (hasTerminal mark) (eqb status statusOpen)
@@ -88,6 +93,7 @@ stepsInto n m t = into (chains n m (t .from) (t .inHead) (t .inNext))
 pub record TableFacts (n m : ℕ) (t : Tables) : Type 0 where
   pub states : All n (stateFits m (t .status) (t .marks) (t .from) (t .successor) (t .inHead) (t .outHead) (t .visited))
   pub steps : All m (λ p. stepFits n (t .status) (t .marks) (getD (t .from) p 0) (getD (t .to) p 0))
+  pub keys : All m (λ p. keyFits (getD (t .key) p 0))
   pub into : ListRule n m (t .to) (t .inHead) (t .inNext)
   pub outOf : ListRule n m (t .from) (t .outHead) (t .outNext)
   -- A live state reaches a terminal one through live states.

@@ -23,6 +23,7 @@ pub fn audit(
     marks: &[u8],
     from: &[u16],
     to: &[u16],
+    key: &[u8],
     successor: &[u16],
     in_head: &[u16],
     out_head: &[u16],
@@ -31,7 +32,7 @@ pub fn audit(
     in_next: &[u16],
     out_next: &[u16],
 ) -> Audit
-    ensures { λ r. ⌜ ((news : List ℕ) → Audited graph (tablesOf (now (status .entry)) (now (marks .entry)) (now (from .entry)) (now (to .entry)) (now (successor .entry)) news (now («in_head» .entry)) (now («out_head» .entry)) (now (queue .entry)) (now (visited .entry)) (now («in_next» .entry)) (now («out_next» .entry))) r (now (queue .exit)) (now (visited .exit))) ⌝ }
+    ensures { λ r. ⌜ ((news : List ℕ) → Audited graph (tablesOf (now (status .entry)) (now (marks .entry)) (now (from .entry)) (now (to .entry)) (now (key .entry)) (now (successor .entry)) news (now («in_head» .entry)) (now («out_head» .entry)) (now (queue .entry)) (now (visited .entry)) (now («in_next» .entry)) (now («out_next» .entry))) r (now (queue .exit)) (now (visited .exit))) ⌝ }
 {
     let n = graph.n;
     let limit = graph.limit;
@@ -48,6 +49,7 @@ pub fn audit(
         visited: visited.len(),
         from: from.len(),
         to: to.len(),
+        key: key.len(),
         in_next: in_next.len(),
         out_next: out_next.len(),
     };
@@ -62,6 +64,7 @@ pub fn audit(
         marks,
         from,
         to,
+        key,
         successor,
         in_head,
         out_head,

@@ -1,12 +1,13 @@
-// What can be said of a listed step by the entries of its two states.
+// What can be said of a listed step by the entries of its two states, and by its key.
 ghost use mathlib.Core.Path.{_≡_};
 ghost use mathlib.Core.Logic.{_↔_};
 ghost use mathlib.Core.Bool.{true};
 ghost use Prim.Native.Nat.{_≤_};
 ghost use lib.ListN.{length, getD};
-ghost use Rattle.audit.specs.Facts.{All, agrees, bothNamed, stepFits};
+ghost use Rattle.audit.specs.Facts.{All, agrees, bothNamed, keyFits, stepFits};
 use tables::DEAD;
 use tables::LIVE;
+use tables::MAX_KEY;
 use tables::has_named;
 use tables::wide;
 
@@ -69,4 +70,26 @@ fn agrees(source: u8, target: u8) -> bool
         return target == DEAD;
     }
     true
+}
+
+// Whether each listed key is 0 to 31.
+pub fn keys_fit(steps: usize, key: &[u8]) -> bool
+    requires { ⌜ steps ≤ length (now key) ⌝ }
+    ensures { λ r. ⌜ (r ≡ true) ↔ All steps (λ p. keyFits (getD (now (key .entry)) p 0)) ⌝ }
+{
+    let mut p = 0;
+    while p < steps {
+        if key_fits(key[p]) {
+            p = p + 1;
+        } else {
+            return false;
+        }
+    }
+    true
+}
+
+fn key_fits(key: u8) -> bool
+    ensures { λ r. ⌜ r ≡ keyFits key ⌝ }
+{
+    key as usize <= MAX_KEY
 }

@@ -28,9 +28,9 @@ abbrev pub codeBy : {A : Type 0} → (A → ℕ) → Outcome A → ℕ
 codeBy f (accepted a) = f a
 codeBy f (refused k) = 65536 + k
 
--- The update of a kind byte (E, T or C) and two states.
-abbrev pub kindBy : ℕ → ℕ → ℕ → Kind
-kindBy kind u v = cond (eqb kind 69) (Known (Step (edge u v))) (cond (eqb kind 84) (Known (Terminal u)) (cond (eqb kind 67) (Known (Close u)) Unknown))
+-- The update of a kind byte (E, T or C), two states and a key.
+abbrev pub kindBy : ℕ → ℕ → ℕ → ℕ → Kind
+kindBy kind u v k = cond (eqb kind 69) (Known (Step (edge u v k))) (cond (eqb kind 84) (Known (Terminal u)) (cond (eqb kind 67) (Known (Close u)) Unknown))
 
 -- The number of any other kind: "11: a line is malformed", behind the tests 1 to 4.
 abbrev pub kindRefusal : Graph → Lengths → Option ℕ

@@ -27,20 +27,21 @@ use writer::Written;
 // What a refusal adds to its number, so that it differs from every number of news and from every status.
 const REFUSED: u32 = 65536;
 
-// The update that a kind byte and two states say, or none.
+// The update that a kind byte, two states and a key say, or none.
 enum Kind {
     Known(Update),
     Unknown,
 }
 
-fn update_of(kind: u8, first: usize, second: usize) -> Kind
-    ensures { λ r. ⌜ r ≡ kindBy kind first second ⌝ }
+fn update_of(kind: u8, first: usize, second: usize, by_key: usize) -> Kind
+    ensures { λ r. ⌜ r ≡ kindBy kind first second «by_key» ⌝ }
 {
     match kind {
         b'E' => Kind::Known(Update::Step {
             edge: Edge {
                 from: first,
                 to: second,
+                key: by_key,
             },
         }),
         b'T' => Kind::Known(Update::Terminal { state: first }),
@@ -69,10 +70,12 @@ pub extern "C" fn radvoinis_update(
     kind: u8,
     first: usize,
     second: usize,
+    by_key: usize,
     status: &mut [u8],
     marks: &mut [u8],
     from: &mut [u16],
     to: &mut [u16],
+    key: &mut [u8],
     successor: &mut [u16],
     news: &mut [u16],
     in_head: &mut [u16],
@@ -82,9 +85,9 @@ pub extern "C" fn radvoinis_update(
     in_next: &mut [u16],
     out_next: &mut [u16],
 ) -> u32
-    ensures { λ r. ⌜ Called n limit (now (steps .entry)) (kindBy kind first second) (tablesOf (now (status .entry)) (now (marks .entry)) (now (from .entry)) (now (to .entry)) (now (successor .entry)) (now (news .entry)) (now («in_head» .entry)) (now («out_head» .entry)) (now (queue .entry)) (now (visited .entry)) (now («in_next» .entry)) (now («out_next» .entry))) (now (steps .exit)) (tablesOf (now (status .exit)) (now (marks .exit)) (now (from .exit)) (now (to .exit)) (now (successor .exit)) (now (news .exit)) (now («in_head» .exit)) (now («out_head» .exit)) (now (queue .exit)) (now (visited .exit)) (now («in_next» .exit)) (now («out_next» .exit))) r ⌝ }
+    ensures { λ r. ⌜ Called n limit (now (steps .entry)) (kindBy kind first second «by_key») (tablesOf (now (status .entry)) (now (marks .entry)) (now (from .entry)) (now (to .entry)) (now (key .entry)) (now (successor .entry)) (now (news .entry)) (now («in_head» .entry)) (now («out_head» .entry)) (now (queue .entry)) (now (visited .entry)) (now («in_next» .entry)) (now («out_next» .entry))) (now (steps .exit)) (tablesOf (now (status .exit)) (now (marks .exit)) (now (from .exit)) (now (to .exit)) (now (key .exit)) (now (successor .exit)) (now (news .exit)) (now («in_head» .exit)) (now («out_head» .exit)) (now (queue .exit)) (now (visited .exit)) (now («in_next» .exit)) (now («out_next» .exit))) r ⌝ }
 {
-    match update_of(kind, first, second) {
+    match update_of(kind, first, second, by_key) {
         Kind::Unknown => {
             let graph = Graph {
                 n,
@@ -102,6 +105,7 @@ pub extern "C" fn radvoinis_update(
                 visited: visited.len(),
                 from: from.len(),
                 to: to.len(),
+                key: key.len(),
                 in_next: in_next.len(),
                 out_next: out_next.len(),
             };
@@ -121,6 +125,7 @@ pub extern "C" fn radvoinis_update(
                 marks,
                 from,
                 to,
+                key,
                 successor,
                 news,
                 in_head,
@@ -186,6 +191,7 @@ pub extern "C" fn radvoinis_audit(
     marks: &[u8],
     from: &[u16],
     to: &[u16],
+    key: &[u8],
     successor: &[u16],
     in_head: &[u16],
     out_head: &[u16],
@@ -194,7 +200,7 @@ pub extern "C" fn radvoinis_audit(
     in_next: &[u16],
     out_next: &[u16],
 ) -> u32
-    ensures { λ r. ⌜ ((news : List ℕ) → AuditCalled (record { n = n; limit = limit; steps = steps }) (tablesOf (now (status .entry)) (now (marks .entry)) (now (from .entry)) (now (to .entry)) (now (successor .entry)) news (now («in_head» .entry)) (now («out_head» .entry)) (now (queue .entry)) (now (visited .entry)) (now («in_next» .entry)) (now («out_next» .entry))) r (now (queue .exit)) (now (visited .exit))) ⌝ }
+    ensures { λ r. ⌜ ((news : List ℕ) → AuditCalled (record { n = n; limit = limit; steps = steps }) (tablesOf (now (status .entry)) (now (marks .entry)) (now (from .entry)) (now (to .entry)) (now (key .entry)) (now (successor .entry)) news (now («in_head» .entry)) (now («out_head» .entry)) (now (queue .entry)) (now (visited .entry)) (now («in_next» .entry)) (now («out_next» .entry))) r (now (queue .exit)) (now (visited .exit))) ⌝ }
 {
     let graph = Graph { n, limit, steps };
     match audit::audit(
@@ -203,6 +209,7 @@ pub extern "C" fn radvoinis_audit(
         marks,
         from,
         to,
+        key,
         successor,
         in_head,
         out_head,
@@ -226,15 +233,16 @@ pub extern "C" fn radvoinis_write(
     marks: &[u8],
     from: &[u16],
     to: &[u16],
+    key: &[u8],
     buf: &mut [u8],
     at: &mut usize,
 ) -> u32
-    ensures { λ r. ⌜ (r ≡ codeBy (λ place. 0) (writeAnswer (record { n = n; limit = limit; steps = steps }) (now (marks .entry)) (now (from .entry)) (now (to .entry)) (now (buf .entry)) (now (at .entry))))
-        × (now (at .exit) ≡ placeAfter (writeAnswer (record { n = n; limit = limit; steps = steps }) (now (marks .entry)) (now (from .entry)) (now (to .entry)) (now (buf .entry)) (now (at .entry))) (now (at .entry)))
-        × (now (buf .exit) ≡ bufferAfter (record { n = n; limit = limit; steps = steps }) (now (marks .entry)) (now (from .entry)) (now (to .entry)) (now (buf .entry)) (now (at .entry))) ⌝ }
+    ensures { λ r. ⌜ (r ≡ codeBy (λ place. 0) (writeAnswer (record { n = n; limit = limit; steps = steps }) (now (marks .entry)) (now (from .entry)) (now (to .entry)) (now (key .entry)) (now (buf .entry)) (now (at .entry))))
+        × (now (at .exit) ≡ placeAfter (writeAnswer (record { n = n; limit = limit; steps = steps }) (now (marks .entry)) (now (from .entry)) (now (to .entry)) (now (key .entry)) (now (buf .entry)) (now (at .entry))) (now (at .entry)))
+        × (now (buf .exit) ≡ bufferAfter (record { n = n; limit = limit; steps = steps }) (now (marks .entry)) (now (from .entry)) (now (to .entry)) (now (key .entry)) (now (buf .entry)) (now (at .entry))) ⌝ }
 {
     let graph = Graph { n, limit, steps };
-    match writer::write(graph, marks, from, to, buf, *at) {
+    match writer::write(graph, marks, from, to, key, buf, *at) {
         Written::End(end) => {
             *at = end;
             0

@@ -13,6 +13,7 @@ pub extern "C" fn radvoinis_status(bytes: &[u8], state: u32) -> u8
     let mut marks = [0u8; MAX_STATES];
     let mut from = [0u16; RECORD_LIMIT];
     let mut to = [0u16; RECORD_LIMIT];
+    let mut key = [0u8; RECORD_LIMIT];
     let mut successor = [0u16; MAX_STATES];
     let mut news = [0u16; MAX_STATES];
     let mut in_head = [0u16; MAX_STATES];
@@ -28,6 +29,7 @@ pub extern "C" fn radvoinis_status(bytes: &[u8], state: u32) -> u8
         &mut marks,
         &mut from,
         &mut to,
+        &mut key,
         &mut successor,
         &mut news,
         &mut in_head,

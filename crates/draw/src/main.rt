@@ -29,8 +29,9 @@ fn main() {
         b"radvoinis-draw",
         b"usage: radvoinis-draw <RECORD\n\
           Reads a record of updates and writes where it ends as a Graphviz graph: each\n\
-          state by its verdict, a terminal one with a double border, each accepted step.\n\
-          It takes no arguments. radvoinis-draw <RECORD | dot -Tpng makes an image.\n",
+          state by its verdict, a terminal one with a double border, each accepted step\n\
+          with its key. It takes no arguments. radvoinis-draw <RECORD | dot -Tpng makes\n\
+          an image.\n",
         os::arg_count(),
     ) {
         return;
@@ -43,6 +44,7 @@ fn draw_record() {
     let mut marks = [0u8; MAX_STATES];
     let mut from = [0u16; RECORD_LIMIT];
     let mut to = [0u16; RECORD_LIMIT];
+    let mut key = [0u8; RECORD_LIMIT];
     let mut successor = [0u16; MAX_STATES];
     let mut news = [0u16; MAX_STATES];
     let mut in_head = [0u16; MAX_STATES];
@@ -60,6 +62,7 @@ fn draw_record() {
         &mut marks,
         &mut from,
         &mut to,
+        &mut key,
         &mut successor,
         &mut news,
         &mut in_head,
@@ -79,6 +82,7 @@ fn draw_input(
     marks: &mut [u8],
     from: &mut [u16],
     to: &mut [u16],
+    key: &mut [u8],
     successor: &mut [u16],
     news: &mut [u16],
     in_head: &mut [u16],
@@ -88,14 +92,15 @@ fn draw_input(
     in_next: &mut [u16],
     out_next: &mut [u16],
 ) -> DrawingEnd
-    requires { ⌜ (pictureRoom ≤ length (now output)) × (openRefusal recordLimit ((tablesOf (now status) (now marks) (now from) (now to) (now successor) (now news) (now «in_head») (now «out_head») (now queue) (now visited) (now «in_next») (now «out_next»))) ≡ none) ⌝ }
-    ensures { λ r. ⌜ EndsDrawing r (now (output .exit)) ((tablesOf (now (status .exit)) (now (marks .exit)) (now (from .exit)) (now (to .exit)) (now (successor .exit)) (now (news .exit)) (now («in_head» .exit)) (now («out_head» .exit)) (now (queue .exit)) (now (visited .exit)) (now («in_next» .exit)) (now («out_next» .exit)))) ⌝ }
+    requires { ⌜ (pictureRoom ≤ length (now output)) × (openRefusal recordLimit ((tablesOf (now status) (now marks) (now from) (now to) (now key) (now successor) (now news) (now «in_head») (now «out_head») (now queue) (now visited) (now «in_next») (now «out_next»))) ≡ none) ⌝ }
+    ensures { λ r. ⌜ EndsDrawing r (now (output .exit)) ((tablesOf (now (status .exit)) (now (marks .exit)) (now (from .exit)) (now (to .exit)) (now (key .exit)) (now (successor .exit)) (now (news .exit)) (now («in_head» .exit)) (now («out_head» .exit)) (now (queue .exit)) (now (visited .exit)) (now («in_next» .exit)) (now («out_next» .exit)))) ⌝ }
 {
     let mut drawer = picture::begin(
         status,
         marks,
         from,
         to,
+        key,
         successor,
         news,
         in_head,
@@ -125,6 +130,7 @@ fn draw_input(
             marks,
             from,
             to,
+            key,
             successor,
             news,
             in_head,

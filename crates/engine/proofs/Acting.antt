@@ -20,7 +20,7 @@ use Rattle.tables.specs.Marks.{withNamed}
 use Rattle.adjacency.specs.Walks.{Pushed}
 use Rattle.search.specs.Escaping.{Escape, Near}
 use Rattle.engine.specs.Effects.{markAt, setMarks}
-use Rattle.engine.specs.Preparing.{nameAt, namesAfter, InRange, Free}
+use Rattle.engine.specs.Preparing.{nameAt, namesAfter, InRange, KeyBelow, Free}
 use Rattle.engine.specs.Judging.{unlessLive, quickened, endangered}
 use Rattle.engine.specs.Done.{Listed, pushed, same}
 
@@ -28,19 +28,22 @@ use Rattle.engine.specs.Done.{Listed, pushed, same}
 pub in-range-as : (n : ℕ) {x y : Update} → x ≡ y → InRange n x → InRange n y
 in-range-as n e h = subst (λ (x : Update). InRange n x) e h
 
+pub key-below-as : (n : ℕ) {x y : Update} → x ≡ y → KeyBelow n x → KeyBelow n y
+key-below-as n e h = subst (λ (x : Update). KeyBelow n x) e h
+
 pub free-as : (m : ℕ) (l : List ℕ) {x y : Update} → x ≡ y → Free m x l → Free m y l
 free-as m l e h = subst (λ (x : Update). Free m x l) e h
 
 -- A step is listed,
-pub listed-one : (m : ℕ) (e : Edge) {from to inHead outHead inNext outNext inHead′ outHead′ inNext′ outNext′ : List ℕ} → Pushed outHead outNext (e .from) m outHead′ outNext′ → Pushed inHead inNext (e .to) m inHead′ inNext′ → Listed m (Step e) from to inHead outHead inNext outNext (set from m (e .from)) (set to m (e .to)) inHead′ outHead′ inNext′ outNext′
-listed-one m e o i = record { sources = refl; targets = refl; chained = pushed e o i }
+pub listed-one : (m : ℕ) (e : Edge) {from to key inHead outHead inNext outNext inHead′ outHead′ inNext′ outNext′ : List ℕ} → Pushed outHead outNext (e .from) m outHead′ outNext′ → Pushed inHead inNext (e .to) m inHead′ inNext′ → Listed m (Step e) from to key inHead outHead inNext outNext (set from m (e .from)) (set to m (e .to)) (set key m (e .key)) inHead′ outHead′ inNext′ outNext′
+listed-one m e o i = record { sources = refl; targets = refl; keys = refl; chained = pushed e o i }
 
 -- and an update of another kind adds nothing: its tag is not a step's.
-pub listed-none : (m : ℕ) (x : Update) {from to inHead outHead inNext outNext : List ℕ} → OneOf (1 ∷ 2 ∷ []) (tagOf the-type x) → Listed m x from to inHead outHead inNext outNext from to inHead outHead inNext outNext
+pub listed-none : (m : ℕ) (x : Update) {from to key inHead outHead inNext outNext : List ℕ} → OneOf (1 ∷ 2 ∷ []) (tagOf the-type x) → Listed m x from to key inHead outHead inNext outNext from to key inHead outHead inNext outNext
 listed-none m (Step e) (inl k) = absurd (omega arith)
 listed-none m (Step e) (inr k) = absurd (omega arith)
-listed-none m (Terminal u) k = record { sources = refl; targets = refl; chained = same refl refl refl refl refl }
-listed-none m (Close u) k = record { sources = refl; targets = refl; chained = same refl refl refl refl refl }
+listed-none m (Terminal u) k = record { sources = refl; targets = refl; keys = refl; chained = same refl refl refl refl refl }
+listed-none m (Close u) k = record { sources = refl; targets = refl; keys = refl; chained = same refl refl refl refl refl }
 
 -- The marks of both ends of a step,
 pub marks-both : (marks : List ℕ) (e : Edge) {marks₁ marks₂ : List ℕ} → marks₁ ≡ markAt withNamed (e .from) marks → marks₂ ≡ markAt withNamed (e .to) marks₁ → marks₂ ≡ setMarks (Step e) marks
@@ -54,11 +57,16 @@ names-both status e f g = g ∙ ap (nameAt (e .to)) f
 pub marks-then : (f : ℕ → ℕ) (marks : List ℕ) (u : ℕ) {marks₁ : List ℕ} {r : ℕ} → marks₁ ≡ markAt withNamed u marks → r ≡ f (getD marks₁ u 0) → set marks₁ u r ≡ markAt f u (markAt withNamed u marks)
 marks-then f marks u e g = rw (g, e)
 
--- The states of an update are below a larger bound too.
+-- The states of an update and its key are below a larger bound too.
 pub in-range-wider : (m n : ℕ) (x : Update) → m ≤ n → InRange m x → InRange n x
 in-range-wider m n (Step e) h k = (omega arith, omega arith)
 in-range-wider m n (Terminal u) h k = omega arith
 in-range-wider m n (Close u) h k = omega arith
+
+pub key-wider : (m n : ℕ) (x : Update) → m ≤ n → KeyBelow m x → KeyBelow n x
+key-wider m n (Step e) h k = omega arith
+key-wider m n (Terminal u) h k = tt
+key-wider m n (Close u) h k = tt
 
 -- 1 + a state that is not live, or 0: the state is below what bounds it.
 unless-below : (n s : ℕ) (b : Bool) (u : ℕ) → s < n → cond b 0 (s + 1) ≡ u + 1 → u < n

@@ -12,7 +12,7 @@ use Rattle.gid.specs.declared.Update.{Update}
 use Rattle.gid.specs.declared.Update.the-variants.{Step, Terminal, Close}
 use Rattle.gid.specs.Updates.{source}
 use Rattle.gid.specs.Histories.{History, IsClosed, listed}
-use Rattle.gid.proofs.Repeats.{repeated-names, repeated-named, repeated-terminal, repeated-closed, repeated-status, repeated-news}
+use Rattle.gid.proofs.Repeats.{within-older, repeated-names, repeated-named, repeated-terminal, repeated-closed, repeated-status, repeated-news}
 use Rattle.tables.specs.declared.Graph.{Graph}
 use Rattle.tables.specs.Tables.{Tables, nodesOf, longEnough}
 use Rattle.tables.specs.Marks.{hasClosed, closesAgain}
@@ -42,10 +42,12 @@ module _ {h : History} {g : Graph} {t : Tables} (c : Consistent h g t) (u : ℕ)
   again-fits =
       record {
         inRange = λ s m. c .inRange s (repeated-names closed m);
+        keysInRange = λ e m. c .keysInRange e (within-older closed (Step e) m);
         marks = λ s r. c .marks s r ∙ sym (same-marks s);
         steps = rw same-listed (c .steps);
         from = rw same-listed (c .from);
         to = rw same-listed (c .to);
+        key = rw same-listed (c .key);
         status = λ s r. c .status s r ∙ sym (repeated-status closed s);
         successor = c .successor;
         into = c .into;
@@ -62,6 +64,7 @@ again-accepted g (Close u) t r i =
       marks = rw r;
       from = refl;
       to = refl;
+      key = refl;
       kept = tables-same (g .n) (nodesOf g) (g .limit) t;
       named = record { few = omega arith; rising = tt; inRange = λ s m. absurd (List·Memᴰ·not-nil m); behind = kept-none 0 (t .news) };
       again = λ q. (refl, refl, refl);

@@ -61,7 +61,7 @@ module _ (h : History) (u : ℕ) where
   terminal-was {s} = older (terminal-close s u)
 
   step-was : {a b : ℕ} → IsStep (Close u ∷ h) a b → IsStep h a b
-  step-was {a} {b} = older (step-close (edge a b) u)
+  step-was {a} {b} m = (m .0, older (step-close (edge a b (m .0)) u) (m .1))
 
   path-was : {a b : ℕ} → Reaches (Close u ∷ h) a b → Reaches h a b
   path-was = unsplit (Close u) (λ e. step-close e u)
@@ -223,7 +223,7 @@ module _ {h : History} {g : Graph} {t : Tables} (c : Consistent h g t) (u : ℕ)
         byCase d z (as-dead y l) = inr (inr (unknown-else v b′ d ∙ z ∙ y))
         byCase d z (as-unknown y _ _ _) = inr (inl (unknown-else v b′ d ∙ z ∙ y))
         byCase d z (as-open y _ _ _) = inl (unknown-else v b′ d ∙ z ∙ y)
-        byCase d z (as-unseen y n) = absurd (n (Step (edge s v), q, inr refl))
+        byCase d z (as-unseen y n) = absurd (n (Step (edge s v (q .0)), q .1, inr refl))
 
         at : Dec (v ≡ u) → (getD stands v 0 ≡ statusOpen) ⊎ ((getD stands v 0 ≡ statusUnknown) ⊎ (getD stands v 0 ≡ statusDead))
         at (yes z) = inr (inl (rw z unknown-here))

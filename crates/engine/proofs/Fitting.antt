@@ -5,6 +5,7 @@ use mathlib.Core.List.{List, _∷_}
 use Prim.Native.Nat.{ℕ, _+_, _<_, _≤_}
 use native.Mathlib.Omega.{arith}
 use lib.ListN.{getD, take}
+use Rattle.gid.specs.declared.Edge.{Edge}
 use Rattle.gid.specs.declared.Update.{Update}
 use Rattle.gid.specs.declared.Update.the-variants.{Step, Terminal, Close}
 use Rattle.gid.specs.Updates.{source}
@@ -25,7 +26,8 @@ use Rattle.engine.specs.Outcomes.{Right}
 use Rattle.engine.specs.Done.{Done, Room, searchTables, naming}
 use Rattle.engine.specs.Promise.{Sendable}
 use Rattle.engine.proofs.Naming.{marks-set}
-use Rattle.engine.proofs.Preparing.{Prepared, prepared, sendable-range}
+use Rattle.engine.proofs.Listing.{keys-after, stored}
+use Rattle.engine.proofs.Preparing.{Prepared, prepared, sendable-range, sendable-key, sendable-free}
 use Rattle.engine.proofs.Sending.{Sent, spread-right}
 use Rattle.engine.proofs.Reviving.{unless-some, unless-none, quiet-spreads, revived-spreads}
 use Rattle.engine.proofs.Closing.{was-live, was-unlive, right-lives, right-nears, right-swept}
@@ -82,10 +84,12 @@ module _ {h : History} {g : Graph} {t : Tables} (c : Consistent h g t) (room : R
       let r = right x s o (omega (arith, steps-few x s, room .bound)) p (d .judged) in (
         record {
           inRange = p .inRange;
+          keysInRange = keys-after x (sendable-key (g .n) (g .limit) (g .steps) x s) (c .keysInRange);
           marks = rw (d .marks) (marks-set h x (t .marks) (g .n) (room .long .marks) (sendable-range (g .n) (g .limit) (g .steps) x s) (c .marks));
           steps = p .lists .count;
           from = p .lists .froms;
           to = p .lists .tos;
+          key = rw (d .listed .keys) (stored (λ (e : Edge). e .key) h x (g .steps) (t .key) (sendable-free (g .n) (g .limit) (g .steps) x s (t .key) (room .long .key)) (c .key));
           status = r .statuses;
           successor =
               same-rule (g .n) (ListedAt (x ∷ h)) (StepAt (graphAfter g x .steps) (t′ .from) (t′ .to)) (λ a. getD (t′ .status) a 0) (λ a. getD (t′ .status) a 0) (λ a. getD (t′ .successor) a 0)

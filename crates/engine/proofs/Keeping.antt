@@ -184,6 +184,7 @@ done-keeps {n} {limit} {m} {t} {t′} {x} s d =
         marks = rw (d .marks) (marks-kept n limit m x r (t .marks));
         from = rw (d .listed .sources) (list-kept n limit m (λ (e : Edge). e .from) x s (t .from));
         to = rw (d .listed .targets) (list-kept n limit m (λ (e : Edge). e .to) x s (t .to));
+        key = rw (d .listed .keys) (list-kept n limit m (λ (e : Edge). e .key) x s (t .key));
         successor = w .successor;
         news = kept-wider (w .news .behind) (w .news .few);
         inHead = l .inHead;

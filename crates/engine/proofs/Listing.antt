@@ -1,6 +1,6 @@
 -- The step list and the range after an update: they are those of the history with it.
 -- Assumes nothing.
-use mathlib.Core.Path.{_≡_, subst}
+use mathlib.Core.Path.{_≡_, sym, subst}
 use mathlib.Core.Logic.{inl, inr, ⊎-elim}
 use mathlib.Core.List.{List, [], _∷_, map, map-append, append-nil, List·Memᴰ·cases-cons}
 use Prim.Native.Nat.{ℕ, _+_, _<_, _≤_}
@@ -12,14 +12,22 @@ use Rattle.gid.specs.declared.Edge.{Edge}
 use Rattle.gid.specs.declared.Update.{Update}
 use Rattle.gid.specs.declared.Update.the-variants.{Step, Terminal, Close}
 use Rattle.gid.specs.Updates.{Mentions}
-use Rattle.gid.specs.Histories.{History, IsNamed, added, listed}
+use Rattle.gid.specs.Histories.{History, Has, IsNamed, added, listed}
+use Rattle.gid.specs.Refusals.{maxKey}
 use Rattle.tables.specs.declared.Graph.{Graph}
 use Rattle.tables.specs.Work.{ListRule}
 use Rattle.tables.specs.Listing.{fromAfter, toAfter, graphAfter}
 use Rattle.tables.proofs.Listed.{ListsSteps}
 use Rattle.adjacency.specs.Walks.{Pushed}
 use Rattle.adjacency.proofs.Walks.{push-keeps}
-use Rattle.engine.specs.Preparing.{InRange, Free}
+use Rattle.engine.specs.Preparing.{InRange, KeyBelow, Free}
+
+-- the keys of the history with x are 0 to 31
+pub keys-after : {h : History} (x : Update) → KeyBelow (maxKey + 1) x → ((e : Edge) → Has h (Step e) → e .key ≤ maxKey) → (e : Edge) → Has (x ∷ h) (Step e) → e .key ≤ maxKey
+keys-after x r c e m = ⊎-elim (λ z. newest (subst (KeyBelow (maxKey + 1)) (sym z) r)) (c e) (List·Memᴰ·cases-cons m)
+  where
+    newest : e .key < maxKey + 1 → e .key ≤ maxKey
+    newest k = omega arith
 
 -- the states of the history with x are below n
 pub range-after : {h : History} (n : ℕ) (x : Update) → InRange n x → ((s : ℕ) → IsNamed h s → s < n) → (s : ℕ) → IsNamed (x ∷ h) s → s < n
@@ -32,7 +40,7 @@ range-after {h} n x r c s m = ⊎-elim (λ e. newest x r (subst (λ (y : Update)
     newest (Close u) q z = subst (λ (a : ℕ). a < n) z q
 
 -- what an update adds, stored behind m entries
-stored : (f : Edge → ℕ) (h : History) (x : Update) (m : ℕ) (l : List ℕ) → Free m x l → take m l ≡ map f (listed h) → take (m + length (added x)) (sets l m (map f (added x))) ≡ map f (listed (x ∷ h))
+pub stored : (f : Edge → ℕ) (h : History) (x : Update) (m : ℕ) (l : List ℕ) → Free m x l → take m l ≡ map f (listed h) → take (m + length (added x)) (sets l m (map f (added x))) ≡ map f (listed (x ∷ h))
 unfolding listed
 stored f h (Step e) m l r q = rw (map-append f (listed h) (e ∷ []), add-one m, take-suc-set l m (f e) r, q)
 stored f h (Terminal u) m l r q = let z : m + 0 ≡ m = omega arith in rw (z, append-nil (listed h)) q

@@ -12,6 +12,7 @@ use Rattle.gid.specs.Updates.{edge}
 use Rattle.gid.specs.Histories.{History, IsStep, IsNamed, added}
 use Rattle.gid.specs.Systems.{ListedAt}
 use Rattle.gid.specs.Successors.{SuccessorRule}
+use Rattle.gid.specs.Refusals.{maxKey}
 use Rattle.gid.proofs.Listing.{arc-step}
 use Rattle.gid.proofs.Chains.{same-rule}
 use Rattle.tables.specs.declared.Graph.{Graph}
@@ -22,7 +23,7 @@ use Rattle.tables.specs.Fitting.{StepAt, Consistent}
 use Rattle.tables.proofs.Listed.{ListsSteps, arcs-listed, lists-of}
 use Rattle.adjacency.proofs.Walks.{linked}
 use Rattle.search.specs.Spreading.{chains, into, outOf}
-use Rattle.engine.specs.Preparing.{InRange, Free}
+use Rattle.engine.specs.Preparing.{InRange, KeyBelow, Free}
 use Rattle.engine.specs.Done.{Chained, pushed, same, Listed, Room}
 use Rattle.engine.specs.Promise.{Sendable}
 use Rattle.engine.proofs.Listing.{range-after, lists-after, rule-after}
@@ -37,7 +38,7 @@ pub record Prepared (f : History) (n m : ℕ) (t : Tables) : Type 0 where
 module _ {f : History} {n m : ℕ} {t : Tables} (p : Prepared f n m t) where
   -- The ends of an arc are states.
   pub arc-inside : (s i v : ℕ) → ListedAt f s i v → (s < n) × (v < n)
-  arc-inside s i v a = let q = arc-step f a in (p .inRange s (Step (edge s v), q, inl refl), p .inRange v (Step (edge s v), q, inr refl))
+  arc-inside s i v a = let q = arc-step f a in (p .inRange s (Step (edge s v (q .0)), q .1, inl refl), p .inRange v (Step (edge s v (q .0)), q .1, inr refl))
 
   -- The steps that walks meet are the history's.
   pub arcs-into : (s i v : ℕ) → v < n → into (chains n m (t .from) (t .inHead) (t .inNext)) s i v ↔ ListedAt f s i v
@@ -58,11 +59,16 @@ rule-listed {h} {g} {t} c =
     same-rule (g .n) (StepAt (g .steps) (t .from) (t .to)) (ListedAt h) (λ s. getD (t .status) s 0) (λ s. getD (t .status) s 0) (λ s. getD (t .successor) s 0)
     (λ s p v. arcs-listed (lists-of c) s p v .0) (λ s q. refl) (c .successor)
 
--- An update that may be sent is in range, and a table that is long enough for the limit has a place for it.
+-- An update that may be sent is in range, with its key, and a table that is long enough for the limit has a place for it.
 pub sendable-range : (n limit m : ℕ) (x : Update) → Sendable n limit m x → InRange n x
 sendable-range n limit m (Step e) s = (s .0, s .1)
 sendable-range n limit m (Terminal u) s = s
 sendable-range n limit m (Close u) s = s
+
+pub sendable-key : (n limit m : ℕ) (x : Update) → Sendable n limit m x → KeyBelow (maxKey + 1) x
+sendable-key n limit m (Step e) s = omega (arith, s .3)
+sendable-key n limit m (Terminal u) s = tt
+sendable-key n limit m (Close u) s = tt
 
 pub sendable-free : (n limit m : ℕ) (x : Update) → Sendable n limit m x → (l : List ℕ) → limit ≤ length l → Free m x l
 sendable-free n limit m (Step e) s l h = omega (arith, s .2)
@@ -86,7 +92,7 @@ module _ {h : History} {g : Graph} {t : Tables} (c : Consistent h g t) (room : R
   -- The tables list the steps of the history with x.
   pub prepared :
       (x : Update) → Sendable (g .n) (g .limit) (g .steps) x →
-      Listed (g .steps) x (t .from) (t .to) (t .inHead) (t .outHead) (t .inNext) (t .outNext) (t′ .from) (t′ .to) (t′ .inHead) (t′ .outHead) (t′ .inNext) (t′ .outNext) →
+      Listed (g .steps) x (t .from) (t .to) (t .key) (t .inHead) (t .outHead) (t .inNext) (t .outNext) (t′ .from) (t′ .to) (t′ .key) (t′ .inHead) (t′ .outHead) (t′ .inNext) (t′ .outNext) →
       Prepared (x ∷ h) (g .n) (graphAfter g x .steps) t′
   prepared x s l =
       let free = sendable-free (g .n) (g .limit) (g .steps) x s in

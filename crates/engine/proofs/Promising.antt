@@ -8,12 +8,12 @@ use Prim.Native.Nat.{ℕ, _+_, _<_, _≤_}
 use native.Mathlib.Omega.{arith}
 use lib.Dec.{leb}
 use lib.ListN.{length, getD}
-use borrow.Author.Tests.{leb-false, eqb-false}
+use borrow.Author.Tests.{leb-false, ltb-false, eqb-false}
 use Rattle.gid.specs.declared.Update.{Update}
 use Rattle.gid.specs.declared.Update.the-variants.{Step, Terminal, Close}
 use Rattle.gid.specs.Updates.{source}
 use Rattle.gid.specs.Histories.{History, IsClosed, added}
-use Rattle.gid.specs.Refusals.{sent}
+use Rattle.gid.specs.Refusals.{sent, maxKey}
 use Rattle.gid.proofs.Decide.{refuted}
 use Rattle.tables.specs.declared.Graph.{Graph}
 use Rattle.tables.specs.Tables.{Tables, nodesOf, longEnough}
@@ -28,12 +28,12 @@ use Rattle.engine.specs.declared.Answer.the-variants.{Accepted, Refused}
 use Rattle.search.specs.Spreading.{chains, into, outOf, Walkable}
 use Rattle.search.specs.Escaping.{toward}
 use Rattle.engine.specs.Effects.{setMarks}
-use Rattle.engine.specs.Preparing.{namesAfter, InRange, Free}
+use Rattle.engine.specs.Preparing.{namesAfter, InRange, KeyBelow, Free}
 use Rattle.engine.specs.Judging.{Judged}
 use Rattle.engine.specs.Done.{Listed, searchTables, Done, Room}
 use Rattle.engine.specs.Promise.{Promise, Sendable}
-use Rattle.engine.proofs.Acting.{in-range-wider}
-use Rattle.engine.proofs.Preparing.{sendable-range, sendable-free}
+use Rattle.engine.proofs.Acting.{in-range-wider, key-wider}
+use Rattle.engine.proofs.Preparing.{sendable-range, sendable-key, sendable-free}
 use Rattle.engine.proofs.Fitting.{done-fits}
 use Rattle.engine.proofs.Keeping.{done-keeps}
 use Rattle.engine.proofs.Again.{again-accepted}
@@ -44,13 +44,13 @@ room-of g t e =
     let a = long-enough (g .n) (g .n) (g .limit) t (l .longs) in
     record { states = l .few-states; bound = l .low-limit; steps = l .room; news = a .0; long = a .1 }
 
--- What the tests 5 to 9 leave: the first state is not closed, but where the update is a close of a closed state.
+-- What the tests behind 4 leave: the first state is not closed, but where the update is a close of a closed state.
 pub sendable-of : (g : Graph) (marks : List ℕ) (x : Update) → g .steps ≤ g .limit → sentNumber g (isFull g) marks x ≡ 0 → Sendable (g .n) (g .limit) (g .steps) x × (closesAgain x marks ≡ false → hasClosed (getD marks (source x) 0) ≡ false)
 sendable-of g marks (Step d) h e =
     let p = passed (sent (given g true (isFull g) marks) (Step d)) (sent-passes g (isFull g) marks (Step d) e) in
     let r = neither (leb (g .n) (d .from)) (leb (g .n) (d .to)) (p .0) in
-    let n = eqb-false (g .steps) (g .limit) (p .1 .1 .0) in
-    ((leb-false (g .n) (d .from) (r .0), leb-false (g .n) (d .to) (r .1), omega arith), λ o. p .1 .0)
+    let n = eqb-false (g .steps) (g .limit) (p .1 .1 .1 .0) in
+    ((leb-false (g .n) (d .from) (r .0), leb-false (g .n) (d .to) (r .1), omega arith, ltb-false maxKey (d .key) (p .1 .0)), λ o. p .1 .1 .0)
 sendable-of g marks (Terminal u) h e =
     let p = passed (sent (given g true (isFull g) marks) (Terminal u)) (sent-passes g (isFull g) marks (Terminal u) e) in
     (leb-false (g .n) u (p .0), λ o. p .1 .0)
@@ -68,12 +68,12 @@ module _ {n limit m : ℕ} {t : Tables} (room : Room n n limit m t) (x : Update)
   wider : (b : ℕ) → n ≤ b → InRange b x
   wider b h = in-range-wider n b x h (sendable-range n limit m x s)
 
-  pub listable : (InRange 65536 x × InRange (length (t .inHead)) x × InRange (length (t .outHead)) x × (m < 65535)) × (Free m x (t .from) × Free m x (t .to) × Free m x (t .inNext) × Free m x (t .outNext))
+  pub listable : (InRange 65536 x × InRange (length (t .inHead)) x × InRange (length (t .outHead)) x × (m < 65535) × KeyBelow 256 x) × (Free m x (t .from) × Free m x (t .to) × Free m x (t .key) × Free m x (t .inNext) × Free m x (t .outNext))
   listable =
       let free = sendable-free n limit m x s in
       let l = room .long in (
-        (wider 65536 (omega (arith, room .states)), wider (length (t .inHead)) (l .inHead), wider (length (t .outHead)) (l .outHead), omega (arith, room .steps, room .bound)),
-        (free (t .from) (l .from), free (t .to) (l .to), free (t .inNext) (l .inNext), free (t .outNext) (l .outNext)),
+        (wider 65536 (omega (arith, room .states)), wider (length (t .inHead)) (l .inHead), wider (length (t .outHead)) (l .outHead), omega (arith, room .steps, room .bound), key-wider (maxKey + 1) 256 x (omega arith) (sendable-key n limit m x s)),
+        (free (t .from) (l .from), free (t .to) (l .to), free (t .key) (l .key), free (t .inNext) (l .inNext), free (t .outNext) (l .outNext)),
       )
 
   pub markable : InRange (length (t .status)) x × InRange (length (t .marks)) x
@@ -101,7 +101,7 @@ module _ {n limit m : ℕ} {t : Tables} (room : Room n n limit m t) (x : Update)
 -- An update is done where its parts are.
 pub done-of :
     {n m k steps : ℕ} (t t′ : Tables) {status : List ℕ} (x : Update) → t′ .marks ≡ setMarks x (t .marks) →
-    Listed m x (t .from) (t .to) (t .inHead) (t .outHead) (t .inNext) (t .outNext) (t′ .from) (t′ .to) (t′ .inHead) (t′ .outHead) (t′ .inNext) (t′ .outNext) →
+    Listed m x (t .from) (t .to) (t .key) (t .inHead) (t .outHead) (t .inNext) (t .outNext) (t′ .from) (t′ .to) (t′ .key) (t′ .inHead) (t′ .outHead) (t′ .inNext) (t′ .outNext) →
     steps ≡ m + length (added x) → status ≡ namesAfter x (t .status) →
     Judged n (into (chains n steps (t′ .from) (t′ .inHead) (t′ .inNext))) (outOf (chains n steps (t′ .to) (t′ .outHead) (t′ .outNext))) (toward steps (t′ .to)) x
     (record { status = status; successor = t .successor; news = t .news; visited = t .visited; queue = t .queue }) (searchTables t′) k →
@@ -152,6 +152,7 @@ module _ (g : Graph) (x : Update) (t : Tables) where
                     marks = rw once (done .marks);
                     from = done .listed .sources;
                     to = done .listed .targets;
+                    key = done .listed .keys;
                     kept = k .0;
                     named = k .1;
                     again = λ q. absurd (false≢true (sym once ∙ q));

@@ -5,7 +5,7 @@ use mathlib.Core.Bool.{Bool, true, false, cond, _||_}
 use mathlib.Core.List.{List, [], _∷_, _++_}
 use mathlib.Core.Option.{Option, some, none}
 use Prim.Native.Nat.{ℕ}
-use lib.Dec.{leb, eqb}
+use lib.Dec.{leb, ltb, eqb}
 use lib.ListN.{length, getD}
 use borrow.Author.Tests.{leb-false}
 use Rattle.gid.specs.declared.Update.{Update}
@@ -13,7 +13,7 @@ use Rattle.gid.specs.declared.Update.the-variants.{Step, Terminal, Close}
 use Rattle.gid.specs.Histories.{History, listed}
 use Rattle.gid.specs.Statuses.{isClosed}
 use Rattle.gid.specs.News.{news}
-use Rattle.gid.specs.Refusals.{Rule, first, lent, sent, refusal}
+use Rattle.gid.specs.Refusals.{Rule, first, lent, sent, refusal, maxKey}
 use Rattle.gid.specs.Outcomes.{accepted, byNumber, givenAfter, outcome, after}
 use Rattle.tables.specs.declared.Graph.{Graph}
 use Rattle.tables.specs.Tables.{Tables, longEnough}
@@ -41,8 +41,8 @@ module _ {h : History} {g : Graph} {t : Tables} (c : Consistent h g t) where
   unfolding givenAfter
   sent-same long (Step d) =
       guarded (leb (g .n) (d .from) || leb (g .n) (d .to)) (leb (g .n) (d .from) || leb (g .n) (d .to)) refl
-      (rule (hasClosed (getD (t .marks) (d .from) 0)) 6 ∷ rule (isFull g) 9 ∷ [])
-      (rule (isClosed h (d .from)) 6 ∷ rule (eqb (length (listed h)) (g .limit)) 9 ∷ [])
+      (rule (ltb maxKey (d .key)) 14 ∷ rule (hasClosed (getD (t .marks) (d .from) 0)) 6 ∷ rule (isFull g) 9 ∷ [])
+      (rule (ltb maxKey (d .key)) 14 ∷ rule (isClosed h (d .from)) 6 ∷ rule (eqb (length (listed h)) (g .limit)) 9 ∷ [])
       (λ e. let r = leb-false (g .n) (d .from) (neither (leb (g .n) (d .from)) (leb (g .n) (d .to)) e .0) in rw (closed-same c (d .from) r, c .steps))
   sent-same long (Terminal u) =
       guarded (leb (g .n) u) (leb (g .n) u) refl (rule (hasClosed (getD (t .marks) u 0)) 6 ∷ []) (rule (isClosed h u) 6 ∷ [])

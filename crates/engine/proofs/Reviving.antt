@@ -18,7 +18,7 @@ use Rattle.gid.specs.Verdicts.{Live}
 use Rattle.gid.specs.Statuses.{isLive, statusLive}
 use Rattle.gid.specs.Systems.{system}
 use Rattle.gid.proofs.Decide.{Decides, refuted, refutes, same-test, decides-or}
-use Rattle.gid.proofs.Paths.{within-newer}
+use Rattle.gid.proofs.Paths.{within-newer, newest-step, step-cases, same-ends}
 use Rattle.gid.proofs.Tests.{decides-live, step-terminal}
 use Rattle.gid.proofs.Listing.{arc-step, one-target, stays-arc}
 use Rattle.gid.proofs.Deadness.{live-system, live-within, live-terminal, live-source, live-least}
@@ -97,7 +97,7 @@ quickened-none (Close u) status n q = absurd (n u refl)
 unjoined : {h : History} (e : Edge) → (Live h (e .to) → ⊥) → {s : ℕ} → Live (Step e ∷ h) s → Live h s
 unjoined {h} e n =
     live-least (Live h) (λ r t. live-terminal (older (λ z. step-terminal e r (sym z)) t))
-    (λ a b q p. ⊎-elim (λ z. absurd (n (let d : edge a b ≡ e = cc in subst (Live h) (ap (λ (y : Edge). y .to) d) p))) (λ o. live-source o p) (List·Memᴰ·cases-cons q))
+    (λ a b q p. ⊎-elim (λ z. absurd (n (subst (Live h) (same-ends (z .1) .1) p))) (λ o. live-source o p) (step-cases q))
 
 source-range : (n : ℕ) (x : Update) → InRange n x → source x < n
 source-range n (Step e) r = r .0
@@ -142,7 +142,7 @@ module _ {h : History} {g : Graph} {t : Tables} (c : Consistent h g t) (x : Upda
     alive : Quickened x (namesAfter x (t .status)) u → Live (x ∷ h) u
     alive (by-mark e) = live-terminal (List·Memᴰ·head (sym e))
     alive (by-step e z d l) =
-        live-source (List·Memᴰ·head (rw (z, ← d)))
+        live-source (rw (z, ← d) (newest-step e))
         (live-within (within-newer x) (live-shown (e .to) (subst (InRange (g .n)) z range .1) .0 l))
 
     -- the update's state is the one start
@@ -156,8 +156,8 @@ module _ {h : History} {g : Graph} {t : Tables} (c : Consistent h g t) (x : Upda
     goal-is s (inl e) = inr (starts-here s (ap source e))
     goal-is s (inr m) = let b = c .inRange s (Terminal s, m, refl) in inl (b, live-shown s b .1 (live-terminal m))
 
-    source-is : (s v : ℕ) → (s < g .n) × (v < g .n) → status′ v ≡ statusLive → (Step (edge s v) ≡ x) ⊎ IsStep h s v → (status′ s ≡ statusLive) ⊎ Before queue (starts .len) s
-    source-is s v b l (inl e) = inr (starts-here s (ap source e))
+    source-is : (s v : ℕ) → (s < g .n) × (v < g .n) → status′ v ≡ statusLive → ((k : ℕ) × (Step (edge s v k) ≡ x)) ⊎ IsStep h s v → (status′ s ≡ statusLive) ⊎ Before queue (starts .len) s
+    source-is s v b l (inl e) = inr (starts-here s (ap source (e .1)))
     source-is s v b l (inr m) = inl (live-shown s (b .0) .1 (live-source m (live-shown v (b .1) .0 l)))
 
     pub quickens : Quickens (system (x ∷ h)) (g .n) (into (chains (g .n) m (t′ .from) (t′ .inHead) (t′ .inNext))) (namesAfter x (t .status)) visited queue starts
@@ -168,7 +168,7 @@ module _ {h : History} {g : Graph} {t : Tables} (c : Consistent h g t) (x : Upda
           single = λ s i v w. one-target (x ∷ h);
           lives = λ s b e. live-system (x ∷ h) .0 (live-within (within-newer x) (live-shown s b .0 e));
           goals = λ s m. goal-is s (List·Memᴰ·cases-cons m);
-          sources = λ s i v a e. source-is s v (arc-inside p s i v a) e (List·Memᴰ·cases-cons (arc-step (x ∷ h) a));
+          sources = λ s i v a e. source-is s v (arc-inside p s i v a) e (step-cases (arc-step (x ∷ h) a));
           starting = λ s b. rw (begun-which begun (g .n) inside inV inQ s b) (inside, live-system (x ∷ h) .0 (alive (why .1)), why .0);
           marks = λ s b m. rw (begun-visited begun (g .n) inside inV inQ s (c .unvisited s b) m) (begun-here begun (g .n) inside inV inQ);
         }

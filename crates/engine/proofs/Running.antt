@@ -12,7 +12,7 @@ use Rattle.gid.specs.declared.Update.{Update}
 use Rattle.gid.specs.declared.Update.the-variants.{Step, Terminal, Close}
 use Rattle.gid.specs.Updates.{source}
 use Rattle.gid.specs.Histories.{History, MayFollow, Legal, IsClosed}
-use Rattle.gid.specs.Refusals.{lent, sent, refusal, maxStates, maxSteps}
+use Rattle.gid.specs.Refusals.{lent, sent, refusal, maxStates, maxSteps, maxKey}
 use Rattle.gid.proofs.Decide.{refutes, refuted}
 use Rattle.tables.specs.declared.Graph.{Graph}
 use Rattle.tables.specs.Tables.{Tables, lengths, longEnough}
@@ -95,7 +95,7 @@ module _ {g₀ : Graph} {t₀ : Tables} where
   sound f (accepted r c x k p) = let a = was-accepted p in sound-accepted (sound-checked (sound f r) c) (a .0) (a .1)
   sound f (refused r c x k p) = let q = was-refused p in rw (q .1, q .2) (sound-checked (sound f r) c)
 
-  -- Where the tests 1 to 4 find nothing, an update in range that may follow and, for a step, has a free place is accepted.
+  -- Where the tests 1 to 4 find nothing, an update in range that may follow and, for a step, has a free place and a key of 0 to 31 is accepted.
   pub not-refused : {h : History} {g : Graph} {t : Tables} → Sound g₀ t₀ h g t → 0 < g .n → g .n ≤ maxStates → 0 < g .limit → g .limit ≤ maxSteps → longEnough g t ≡ true → (x : Update) → Sendable (g .n) (g .limit) (g .steps) x → MayFollow h x → refusalOn g t x ≡ none
   unfolding refusal
   not-refused {h} {g} {t} s a b c d e x r o =
@@ -113,7 +113,7 @@ module _ {g₀ : Graph} {t₀ : Tables} where
       sents : (y : Update) → Sendable (g .n) (g .limit) (g .steps) y → MayFollow h y → NoneApply (sent (given g (longEnough g t) (isFull g) (t .marks)) y)
       sents (Step d) q n = (
         rw (lt-leb (g .n) (d .from) (q .0)) (lt-leb (g .n) (d .to) (q .1)),
-        (unmarked (s .fits) (d .from) (q .0) n, (ne-eqb (g .steps) (g .limit) (λ z. absurd (omega (arith, q .2))), tt)),
+        (le-ltb maxKey (d .key) (q .3), (unmarked (s .fits) (d .from) (q .0) n, (ne-eqb (g .steps) (g .limit) (λ z. absurd (omega (arith, q .2))), tt))),
       )
       sents (Terminal u) q n = (lt-leb (g .n) u q, (unmarked (s .fits) u q n, tt))
       sents (Close u) q n = (lt-leb (g .n) u q, tt)

@@ -43,7 +43,7 @@ fewer (leave {f = f} x l c) = let i = fewer c in rw (length-append (listed f) (a
 
 -- an update that is sendable with more steps listed is so with fewer
 sendable-fewer : (n limit : ℕ) {m m′ : ℕ} → m′ ≤ m → (x : Update) → Sendable n limit m x → Sendable n limit m′ x
-sendable-fewer n limit h (Step e) s = (s .0, s .1, omega (arith, s .2))
+sendable-fewer n limit h (Step e) s = (s .0, s .1, omega (arith, s .2), s .3)
 sendable-fewer n limit h (Terminal u) s = s
 sendable-fewer n limit h (Close u) s = s
 

@@ -10,7 +10,7 @@ use Rattle.gid.specs.declared.Update.the-variants.{Step}
 use Rattle.gid.specs.Histories.{added}
 use Rattle.gid.specs.Refusals.{maxStates, maxSteps}
 use Rattle.tables.specs.Tables.{Tables, Long}
-use Rattle.tables.specs.Listing.{fromAfter, toAfter}
+use Rattle.tables.specs.Listing.{fromAfter, toAfter, keyAfter}
 use Rattle.adjacency.specs.Walks.{Pushed}
 use Rattle.search.specs.Spreading.{chains, into, outOf}
 use Rattle.search.specs.Escaping.{toward}
@@ -25,9 +25,10 @@ pub data Chained (m : ℕ) (inHead outHead inNext outNext inHead′ outHead′ i
   same : {x : Update} → added x ≡ [] → inHead′ ≡ inHead → outHead′ ≡ outHead → inNext′ ≡ inNext → outNext′ ≡ outNext → Chained m inHead outHead inNext outNext inHead′ outHead′ inNext′ outNext′ x
 
 -- What the update x adds is listed behind the m steps, in the list and in the chains.
-pub record Listed (m : ℕ) (x : Update) (from to inHead outHead inNext outNext from′ to′ inHead′ outHead′ inNext′ outNext′ : List ℕ) : Type 0 where
+pub record Listed (m : ℕ) (x : Update) (from to key inHead outHead inNext outNext from′ to′ key′ inHead′ outHead′ inNext′ outNext′ : List ℕ) : Type 0 where
   pub sources : from′ ≡ fromAfter m x from
   pub targets : to′ ≡ toAfter m x to
+  pub keys : key′ ≡ keyAfter m x key
   pub chained : Chained m inHead outHead inNext outNext inHead′ outHead′ inNext′ outNext′ x
 
 -- The tables that a search writes, and with the states of x named.
@@ -40,7 +41,7 @@ naming x b = record { status = namesAfter x (b .status); successor = b .successo
 -- The update x is done on tables with n states and m steps: k news.
 pub record Done (n m : ℕ) (t t′ : Tables) (k : ℕ) (x : Update) : Type 0 where
   pub marks : t′ .marks ≡ setMarks x (t .marks)
-  pub listed : Listed m x (t .from) (t .to) (t .inHead) (t .outHead) (t .inNext) (t .outNext) (t′ .from) (t′ .to) (t′ .inHead) (t′ .outHead) (t′ .inNext) (t′ .outNext)
+  pub listed : Listed m x (t .from) (t .to) (t .key) (t .inHead) (t .outHead) (t .inNext) (t .outNext) (t′ .from) (t′ .to) (t′ .key) (t′ .inHead) (t′ .outHead) (t′ .inNext) (t′ .outNext)
   pub judged :
       Judged n (into (chains n (m + length (added x)) (t′ .from) (t′ .inHead) (t′ .inNext))) (outOf (chains n (m + length (added x)) (t′ .to) (t′ .outHead) (t′ .outNext)))
       (toward (m + length (added x)) (t′ .to)) x (naming x (searchTables t)) (searchTables t′) k

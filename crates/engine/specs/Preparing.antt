@@ -1,4 +1,4 @@
--- What an accepted update is prepared by: its states are in range, a step has a place, and the states that it names are seen.
+-- What an accepted update is prepared by: its states and its key are in range, a step has a place, and the states that it names are seen.
 -- Assumes nothing.
 use mathlib.Core.Bool.{cond}
 use mathlib.Core.List.{List}
@@ -27,6 +27,12 @@ abbrev pub InRange : ℕ → Update → Type 0
 InRange n (Step e) = (e .from < n) × (e .to < n)
 InRange n (Terminal u) = u < n
 InRange n (Close u) = u < n
+
+-- Where the update is a step, its key is below n.
+abbrev pub KeyBelow : ℕ → Update → Type 0
+KeyBelow n (Step e) = e .key < n
+KeyBelow n (Terminal u) = Unit {0}
+KeyBelow n (Close u) = Unit {0}
 
 -- Where the update is a step, a table has a place m.
 abbrev pub Free : ℕ → Update → List ℕ → Type 0

@@ -9,11 +9,12 @@ use Rattle.gid.specs.declared.Update.{Update}
 use Rattle.gid.specs.declared.Update.the-variants.{Step, Terminal, Close}
 use Rattle.gid.specs.Histories.{History, Legal}
 use Rattle.gid.specs.News.{news, Rising}
+use Rattle.gid.specs.Refusals.{maxKey}
 use Rattle.tables.specs.declared.Graph.{Graph}
 use Rattle.tables.specs.Tables.{Tables, nodesOf}
 use Rattle.tables.specs.Marks.{closesAgain}
 use Rattle.tables.specs.Keeping.{Kept, KeptTables}
-use Rattle.tables.specs.Listing.{fromAfter, toAfter, graphAfter}
+use Rattle.tables.specs.Listing.{fromAfter, toAfter, keyAfter, graphAfter}
 use Rattle.tables.specs.Refused.{refusalOn}
 use Rattle.tables.specs.Fitting.{Consistent}
 use Rattle.engine.specs.declared.Answer.{Answer}
@@ -34,6 +35,7 @@ pub record AcceptedUpdate (g : Graph) (x : Update) (t : Tables) (g′ : Graph) (
   pub marks : t′ .marks ≡ marksAfter x (t .marks)
   pub from : t′ .from ≡ fromAfter (g .steps) x (t .from)
   pub to : t′ .to ≡ toAfter (g .steps) x (t .to)
+  pub key : t′ .key ≡ keyAfter (g .steps) x (t .key)
   -- every table below its needed length alone, and the news. What statuses, successors and work tables hold there is free on tables that do not fit.
   pub kept : KeptTables (g .n) (nodesOf g) (g .limit) t t′
   pub named : NewsKept (g .n) (t .news) (t′ .news) answer
@@ -48,8 +50,8 @@ pub record Promise (g : Graph) (x : Update) (t : Tables) (g′ : Graph) (answer 
   pub refuses : (k : ℕ) → refusalOn g t x ≡ some k → (newsOf answer (t′ .news) ≡ []) × (g′ ≡ g) × (t′ ≡ t)
   pub accepts : refusalOn g t x ≡ none → AcceptedUpdate g x t g′ t′ answer
 
--- The update's states are below n, and a step has a free place.
+-- The update's states are below n, and a step has a free place and a key of 0 to 31.
 abbrev pub Sendable : ℕ → ℕ → ℕ → Update → Type 0
-Sendable n limit m (Step e) = (e .from < n) × (e .to < n) × (m < limit)
+Sendable n limit m (Step e) = (e .from < n) × (e .to < n) × (m < limit) × (e .key ≤ maxKey)
 Sendable n limit m (Terminal u) = u < n
 Sendable n limit m (Close u) = u < n

@@ -9,7 +9,7 @@ ghost use Rattle.tables.specs.Marks.{withNamed};
 ghost use Rattle.search.specs.Spreading.{chains, into, outOf, Walkable};
 ghost use Rattle.search.specs.Escaping.{toward};
 ghost use Rattle.engine.specs.Effects.{markAt, setMarks};
-ghost use Rattle.engine.specs.Preparing.{nameAt, namesAfter, InRange, Free};
+ghost use Rattle.engine.specs.Preparing.{nameAt, namesAfter, InRange, KeyBelow, Free};
 ghost use Rattle.engine.specs.Judging.{unlessLive, quickened, endangered, Judged};
 ghost use Rattle.engine.specs.Done.{Listed};
 use adjacency::push;
@@ -33,14 +33,15 @@ pub fn list(
     p: usize,
     from: &mut [u16],
     to: &mut [u16],
+    key: &mut [u8],
     in_head: &mut [u16],
     out_head: &mut [u16],
     in_next: &mut [u16],
     out_next: &mut [u16],
 )
-    requires { ⌜ InRange 65536 update × InRange (length (now «in_head»)) update × InRange (length (now «out_head»)) update × (p < 65535) ⌝ }
-    requires { ⌜ Free p update (now from) × Free p update (now to) × Free p update (now «in_next») × Free p update (now «out_next») ⌝ }
-    ensures { λ _. ⌜ Listed p update (now (from .entry)) (now (to .entry)) (now («in_head» .entry)) (now («out_head» .entry)) (now («in_next» .entry)) (now («out_next» .entry)) (now (from .exit)) (now (to .exit)) (now («in_head» .exit)) (now («out_head» .exit)) (now («in_next» .exit)) (now («out_next» .exit)) ⌝ }
+    requires { ⌜ InRange 65536 update × InRange (length (now «in_head»)) update × InRange (length (now «out_head»)) update × (p < 65535) × KeyBelow 256 update ⌝ }
+    requires { ⌜ Free p update (now from) × Free p update (now to) × Free p update (now key) × Free p update (now «in_next») × Free p update (now «out_next») ⌝ }
+    ensures { λ _. ⌜ Listed p update (now (from .entry)) (now (to .entry)) (now (key .entry)) (now («in_head» .entry)) (now («out_head» .entry)) (now («in_next» .entry)) (now («out_next» .entry)) (now (from .exit)) (now (to .exit)) (now (key .exit)) (now («in_head» .exit)) (now («out_head» .exit)) (now («in_next» .exit)) (now («out_next» .exit)) ⌝ }
 {
     let Update::Step { edge } = update else {
         return;
@@ -49,6 +50,7 @@ pub fn list(
     let v = edge.to;
     from[p] = u as u16;
     to[p] = v as u16;
+    key[p] = edge.key as u8;
     push(out_head, out_next, u, p);
     push(in_head, in_next, v, p);
 }

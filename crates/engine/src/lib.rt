@@ -40,6 +40,7 @@ impl Engine {
         marks: &mut [u8],
         from: &mut [u16],
         to: &mut [u16],
+        key: &mut [u8],
         successor: &mut [u16],
         news: &mut [u16],
         in_head: &mut [u16],
@@ -49,7 +50,7 @@ impl Engine {
         in_next: &mut [u16],
         out_next: &mut [u16],
     ) -> Updated
-        ensures { λ r. ⌜ Promise (self .graph) update (tablesOf (now (status .entry)) (now (marks .entry)) (now (from .entry)) (now (to .entry)) (now (successor .entry)) (now (news .entry)) (now («in_head» .entry)) (now («out_head» .entry)) (now (queue .entry)) (now (visited .entry)) (now («in_next» .entry)) (now («out_next» .entry))) (r .engine .graph) (r .answer) (tablesOf (now (status .exit)) (now (marks .exit)) (now (from .exit)) (now (to .exit)) (now (successor .exit)) (now (news .exit)) (now («in_head» .exit)) (now («out_head» .exit)) (now (queue .exit)) (now (visited .exit)) (now («in_next» .exit)) (now («out_next» .exit))) ⌝ }
+        ensures { λ r. ⌜ Promise (self .graph) update (tablesOf (now (status .entry)) (now (marks .entry)) (now (from .entry)) (now (to .entry)) (now (key .entry)) (now (successor .entry)) (now (news .entry)) (now («in_head» .entry)) (now («out_head» .entry)) (now (queue .entry)) (now (visited .entry)) (now («in_next» .entry)) (now («out_next» .entry))) (r .engine .graph) (r .answer) (tablesOf (now (status .exit)) (now (marks .exit)) (now (from .exit)) (now (to .exit)) (now (key .exit)) (now (successor .exit)) (now (news .exit)) (now («in_head» .exit)) (now («out_head» .exit)) (now (queue .exit)) (now (visited .exit)) (now («in_next» .exit)) (now («out_next» .exit))) ⌝ }
     {
         let graph = self.graph;
         let lengths = Lengths {
@@ -63,6 +64,7 @@ impl Engine {
             visited: visited.len(),
             from: from.len(),
             to: to.len(),
+            key: key.len(),
             in_next: in_next.len(),
             out_next: out_next.len(),
         };
@@ -94,6 +96,7 @@ impl Engine {
             steps,
             from,
             to,
+            key,
             in_head,
             out_head,
             in_next,

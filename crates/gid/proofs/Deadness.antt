@@ -81,10 +81,10 @@ frozen (y ∷ k) h l x c m = ⊎-elim (λ e. newest x c (subst (λ (z : Update).
 pub grows : (k h : History) → LegalBehind h k → Grows (system h) (system (k ++ h))
 grows k h l =
     record {
-      arcs = λ s. within-steps h (k ++ h) s (λ t m. Memᴰ·append-right k m);
+      arcs = λ s. within-steps h (k ++ h) s (λ t m. (m .0, Memᴰ·append-right k (m .1)));
       goals = λ s m. Memᴰ·append-right k m;
       finals = λ s m. Memᴰ·append-right k m;
-      lateArcs = λ s c. within-steps (k ++ h) h s (λ t m. frozen k h l (Step (edge s t)) c m);
+      lateArcs = λ s c. within-steps (k ++ h) h s (λ t m. (m .0, frozen k h l (Step (edge s t (m .0))) c (m .1)));
       lateGoals = λ s c m. frozen k h l (Terminal s) c m;
     }
 

@@ -15,7 +15,7 @@ use Rattle.gid.specs.Statuses.{isLive, isDead, isClosed, isNamed, status
 use Rattle.gid.specs.News.{settles, news}
 use Rattle.gid.specs.Pruning.{Pruned, start, keep, leave, Agrees}
 use Rattle.gid.proofs.Decide.{decided, refuted, same-test, decides-iff}
-use Rattle.gid.proofs.Paths.{Inside, within-newer}
+use Rattle.gid.proofs.Paths.{Inside, within-newer, step-within}
 use Rattle.gid.proofs.Following.{follows-within}
 use Rattle.gid.proofs.Tests.{decides-live, decides-dead, decides-closed, decides-named}
 use Rattle.gid.proofs.Systems.{live-carried, dead-pruned, dead-full}
@@ -40,7 +40,7 @@ carried {f} {g} x o k l =
     (live-carried (system f) (system (x ∷ f)) (system g) (λ s. decided (isLive f s) (decides-iff (decides-live f s) (live-system f .0) (live-system f .1)))
     (λ s q. live-system g .0 (o s (live-system f .1 q)))
     (λ s n t. k (Terminal s) (λ q. n (live-system f .0 q)) t)
-    (λ s n. within-steps (x ∷ f) g s (λ t m. k (Step (edge s t)) (λ q. n (live-system f .0 q)) m))
+    (λ s n. within-steps (x ∷ f) g s (λ t m. (m .0, k (Step (edge s t (m .0))) (λ q. n (live-system f .0 q)) (m .1))))
     (live-system (x ∷ f) .0 l))
 
 -- an update sent from a live state makes no state live
@@ -78,10 +78,10 @@ module _ {f p : History} (k : Keeps f p) where
   prunes : Prunes (system f) (system p)
   prunes =
       record {
-        arcs = λ s. within-steps p f s (λ t m. k .part (Step (edge s t)) m);
+        arcs = λ s. within-steps p f s (λ t m. step-within (k .part) m);
         goals = λ s m. k .part (Terminal s) m;
         finals = λ s m. k .part (Close s) m;
-        keptArcs = λ s n. within-steps f p s (λ t m. k .kept (Step (edge s t)) m (λ l. n (live-system f .0 l)));
+        keptArcs = λ s n. within-steps f p s (λ t m. (m .0, k .kept (Step (edge s t (m .0))) (m .1) (λ l. n (live-system f .0 l))));
         keptFinals = λ s n m. k .kept (Close s) m (λ l. n (live-system f .0 l));
         live = λ s l. live-system p .0 (k .live s (live-system f .1 l));
       }

@@ -16,7 +16,7 @@ use Rattle.gid.proofs.Deadness.{live-within}
 use Rattle.gid.proofs.Pruning.{Keeps, keeps-itself, same-live, same-dead, no-news}
 
 module _ {h : History} {x : Update} (has : Has h x) where
-  within-older : Inside (x ∷ h) h
+  pub within-older : Inside (x ∷ h) h
   within-older y m = ⊎-elim (λ e. subst (λ (z : Update). Has h z) (sym e) has) (λ q. q) (List·Memᴰ·cases-cons m)
 
   -- The history is one with the repeat, of which that was left out.

@@ -20,7 +20,7 @@ live-named {h} {s} (v, p, t) = first p t
   where
     first : {u w : ℕ} → Reaches h u w → List·Memᴰ (Terminal w) h → IsNamed h u
     first {u} here t = (Terminal u, t, refl)
-    first {u} (along {v = v} m p) t = (Step (edge u v), m, inl refl)
+    first {u} (along {v = v} m p) t = (Step (edge u v (m .0)), m .1, inl refl)
 
 pub closed-named : {h : History} {s : ℕ} → IsClosed h s → IsNamed h s
 closed-named {s = s} c = (Close s, c, refl)

@@ -1,6 +1,6 @@
 -- The computed tests of specs/Statuses.antt decide the statements of specs/Histories.antt and specs/Verdicts.antt.
 -- Assumes nothing.
-use mathlib.Core.Path.{_≡_, refl, sym, ap, subst}
+use mathlib.Core.Path.{_≡_, refl, sym, subst}
 use mathlib.Core.Logic.{_⊎_, inl, inr, ⊎-elim}
 use mathlib.Core.Bool.{Bool, _&&_, _||_, not}
 use mathlib.Core.List.{[], _∷_, List·Memᴰ·head, List·Memᴰ·tail, List·Memᴰ·cases-cons, List·Memᴰ·not-nil}
@@ -15,7 +15,7 @@ use Rattle.gid.specs.Histories.{History, Has, IsStep, IsTerminal, IsClos
 use Rattle.gid.specs.Verdicts.{Reaches, here, along, Live, DeadByReach}
 use Rattle.gid.specs.Statuses.{isNamed, isTerminal, isClosed, reaches, reachesMark, isLive, isStuck, reachesStuck, isDead}
 use Rattle.gid.proofs.Decide.{Decides, decided, decides-iff, decides-eq, decides-false, decides-or, decides-and, decides-not}
-use Rattle.gid.proofs.Paths.{path-within, within-newer, join, split, unsplit}
+use Rattle.gid.proofs.Paths.{path-within, within-newer, step-within, no-step, newest-step, step-cases, same-ends, join, split, unsplit}
 
 -- no update is of two kinds
 pub step-terminal : (e : Edge) (s : ℕ) → Step e ≡ Terminal s → ⊥
@@ -77,7 +77,7 @@ decides-named (Close u ∷ h) s = names (Close u) s (decides-eq u s) (decides-na
 -- with no step, a path is empty
 stays : {u w : ℕ} → Reaches [] u w → u ≡ w
 stays here = refl
-stays (along m p) = absurd (List·Memᴰ·not-nil m)
+stays (along m p) = absurd (no-step m)
 
 pub decides-reaches : (h : History) (u w : ℕ) → Decides (reaches h u w) (Reaches h u w)
 unfolding reaches
@@ -92,7 +92,7 @@ decides-reaches (Step e ∷ h) u w =
     through : Reaches h u w ⊎ (Reaches h u (e .from) × Reaches h (e .to) w) → Reaches (Step e ∷ h) u w
     through (inl p) = path-within (within-newer (Step e)) p
     through (inr p) =
-        join (path-within (within-newer (Step e)) (p .0)) (along (List·Memᴰ·head refl) (path-within (within-newer (Step e)) (p .1)))
+        join (path-within (within-newer (Step e)) (p .0)) (along (newest-step e) (path-within (within-newer (Step e)) (p .1)))
 decides-reaches (Terminal a ∷ h) u w =
     decides-iff (decides-reaches h u w) (path-within (within-newer (Terminal a))) (unsplit (Terminal a) (λ e. step-terminal e a))
 decides-reaches (Close a ∷ h) u w =
@@ -145,14 +145,14 @@ abbrev ReachesStuck : History → ℕ → History → Type 0
 ReachesStuck g s h = Stuck g s × ((a b : ℕ) → IsStep h a b → Reaches g s b → Stuck g b)
 
 stuck-older : (g : History) (s : ℕ) {h : History} (y : Update) → ((e : Edge) → Step e ≡ y → ⊥) → {b : Bool} → Decides b (ReachesStuck g s h) → Decides b (ReachesStuck g s (y ∷ h))
-stuck-older g s {h} y n d = decides-iff d to (λ r. (r .0, λ a b m. r .1 a b (List·Memᴰ·tail m)))
+stuck-older g s {h} y n d = decides-iff d to (λ r. (r .0, λ a b m. r .1 a b (step-within (within-newer y) m)))
   where
     to : ReachesStuck g s h → ReachesStuck g s (y ∷ h)
-    to r = (r .0, λ a b m. ⊎-elim (λ e. absurd (n (edge a b) e)) (λ m′. r .1 a b m′) (List·Memᴰ·cases-cons m))
+    to r = (r .0, λ a b m. ⊎-elim (λ e. absurd (n (edge a b (e .0)) (e .1))) (λ m′. r .1 a b m′) (step-cases m))
 
 decides-reaches-stuck : (g : History) (s : ℕ) (h : History) → Decides (reachesStuck g s h) (ReachesStuck g s h)
 unfolding reachesStuck
-decides-reaches-stuck g s [] = decides-iff (decides-stuck g s) (λ p. (p, λ a b m. absurd (List·Memᴰ·not-nil m))) (λ r. r .0)
+decides-reaches-stuck g s [] = decides-iff (decides-stuck g s) (λ p. (p, λ a b m. absurd (no-step m))) (λ r. r .0)
 decides-reaches-stuck g s (Step e ∷ h) =
     decides-iff
     (decides-and (not (reaches g s (e .to)) || isStuck g (e .to)) (reachesStuck g s h)
@@ -168,7 +168,7 @@ decides-reaches-stuck g s (Step e ∷ h) =
     to : ((Reaches g s (e .to) → ⊥) ⊎ Stuck g (e .to)) × ReachesStuck g s h → ReachesStuck g s (Step e ∷ h)
     to r = (
       r .1 .0,
-      λ a b m. ⊎-elim (λ z. at (let d : edge a b ≡ e = cc in ap (λ (x : Edge). x .to) d) (r .0)) (λ m′. r .1 .1 a b m′) (List·Memᴰ·cases-cons m),
+      λ a b m. ⊎-elim (λ z. at (same-ends (z .1) .1) (r .0)) (λ m′. r .1 .1 a b m′) (step-cases m),
     )
 
     either : Dec (Reaches g s (e .to)) → (Reaches g s (e .to) → Stuck g (e .to)) → (Reaches g s (e .to) → ⊥) ⊎ Stuck g (e .to)
@@ -177,8 +177,8 @@ decides-reaches-stuck g s (Step e ∷ h) =
 
     of : ReachesStuck g s (Step e ∷ h) → ((Reaches g s (e .to) → ⊥) ⊎ Stuck g (e .to)) × ReachesStuck g s h
     of r = (
-      either (decided (reaches g s (e .to)) (decides-reaches g s (e .to))) (r .1 (e .from) (e .to) (List·Memᴰ·head refl)),
-      (r .0, λ a b m. r .1 a b (List·Memᴰ·tail m)),
+      either (decided (reaches g s (e .to)) (decides-reaches g s (e .to))) (r .1 (e .from) (e .to) (newest-step e)),
+      (r .0, λ a b m. r .1 a b (step-within (within-newer (Step e)) m)),
     )
 decides-reaches-stuck g s (Terminal a ∷ h) = stuck-older g s (Terminal a) (λ e. step-terminal e a) (decides-reaches-stuck g s h)
 decides-reaches-stuck g s (Close a ∷ h) = stuck-older g s (Close a) (λ e. step-close e a) (decides-reaches-stuck g s h)

@@ -1,4 +1,4 @@
--- The marked examples of document 01, and a close that comes again (document 02, #102), as one list of cases. proofs/Examples.antt proves them of the definitions.
+-- The marked examples of document 01, a close that comes again and keys (document 02, #102 and #101), as one list of cases. proofs/Examples.antt proves them of the definitions.
 -- Assumes nothing.
 use mathlib.Core.List.{List, [], _∷_}
 use Prim.Native.Nat.{ℕ}
@@ -26,8 +26,12 @@ seen c =
     let g = after 3 (c .limit) h (c .last) in
     record { outcome = outcome 3 (c .limit) h (c .last); statuses = status g 0 ∷ status g 1 ∷ status g 2 ∷ [] }
 
+-- A step by the key 0, as in document 01's examples, and by another.
 abbrev step : ℕ → ℕ → Update
-step u v = Step (edge u v)
+step u v = Step (edge u v 0)
+
+abbrev by : ℕ → ℕ → ℕ → Update
+by k u v = Step (edge u v k)
 
 abbrev at : ℕ → List Update → Update → Outcome (List ℕ) → List ℕ → Case
 at limit before last o s = record { limit = limit; before = before; last = last; expected = record { outcome = o; statuses = s } }
@@ -69,4 +73,12 @@ cases =
     -- A close of a closed state, dead, live or unknown: accepted, no news, and each status as it was.
     at 4 (Close 0 ∷ []) (Close 0) (accepted []) (4 ∷ 0 ∷ 0 ∷ []) ∷
     at 4 (Terminal 0 ∷ Close 0 ∷ []) (Close 0) (accepted []) (3 ∷ 0 ∷ 0 ∷ []) ∷
-    at 4 (step 0 1 ∷ Close 0 ∷ []) (Close 0) (accepted []) (2 ∷ 1 ∷ 0 ∷ []) ∷ []
+    at 4 (step 0 1 ∷ Close 0 ∷ []) (Close 0) (accepted []) (2 ∷ 1 ∷ 0 ∷ []) ∷
+    -- A key above 31 is refused with 14, behind 5 and before 6. By 31 life spreads as by any key.
+    at 4 [] (by 32 0 1) (refused 14) (0 ∷ 0 ∷ 0 ∷ []) ∷
+    at 4 [] (by 32 0 5) (refused 5) (0 ∷ 0 ∷ 0 ∷ []) ∷
+    at 4 (Close 0 ∷ []) (by 32 0 1) (refused 14) (4 ∷ 0 ∷ 0 ∷ []) ∷
+    at 4 (Terminal 1 ∷ []) (by 31 0 1) (accepted (0 ∷ [])) (3 ∷ 3 ∷ 0 ∷ []) ∷
+    -- Two steps that differ only in key are two steps: with limit 1 the second finds no place.
+    at 1 (by 3 0 1 ∷ []) (by 4 0 1) (refused 9) (1 ∷ 1 ∷ 0 ∷ []) ∷
+    at 2 (by 3 0 1 ∷ by 4 0 1 ∷ []) (by 5 0 1) (refused 9) (1 ∷ 1 ∷ 0 ∷ []) ∷ []

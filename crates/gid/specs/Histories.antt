@@ -21,9 +21,9 @@ following h (x ∷ xs) = following (x ∷ h) xs
 abbrev pub Has : History → Update → Type 0
 Has h x = List·Memᴰ x h
 
--- The history has a step from u to v.
+-- The history has a step from u to v, by some key.
 abbrev pub IsStep : History → ℕ → ℕ → Type 0
-IsStep h u v = Has h (Step (edge u v))
+IsStep h u v = (k : ℕ) × Has h (Step (edge u v k))
 
 abbrev pub IsTerminal : History → ℕ → Type 0
 IsTerminal h s = Has h (Terminal s)

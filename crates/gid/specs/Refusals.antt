@@ -1,4 +1,4 @@
--- The numbers 1 to 9, without 7 and 8 (document 02, #102 and #110): which updates are refused. Document 01, "Numbers by who causes them": "Tests run in rising order and the first that applies is given."
+-- The numbers 1 to 9, without 7 and 8 (document 02, #102 and #110), and 14 (#101): which updates are refused. Document 01, "Numbers by who causes them": "Tests run in rising order and the first that applies is given", but for 14, which is "tested right after 5".
 -- Assumes nothing.
 use mathlib.Core.Bool.{Bool, not, cond, _||_}
 use mathlib.Core.List.{List, [], _∷_, _++_}
@@ -14,6 +14,10 @@ maxStates = 2048
 
 abbrev pub maxSteps : ℕ
 maxSteps = 8192
+
+-- "Each step now carries a key, 0 to 31" (document 02, #101).
+abbrev pub maxKey : ℕ
+maxKey = 31
 
 -- What a refusal turns on: the state value (n, the step limit, the number of steps), whether every table that the call is lent is long enough, whether the step list is full, and which states are marked closed.
 pub record Given : Type 0 where
@@ -46,6 +50,7 @@ lent g =
 abbrev pub sent : Given → Update → List Rule
 sent g (Step e) =
     record { applies = leb (g .n) (e .from) || leb (g .n) (e .to); number = 5 } ∷
+    record { applies = ltb maxKey (e .key); number = 14 } ∷
     record { applies = g .closed (e .from); number = 6 } ∷
     record { applies = g .full; number = 9 } ∷ []
 sent g (Terminal u) =

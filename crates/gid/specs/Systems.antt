@@ -52,9 +52,9 @@ pub record Prunes (F P : System) : Type 0 where
   pub keptFinals : (s : ℕ) → (LiveIn F s → ⊥) → F .Final s → P .Final s
   pub live : (s : ℕ) → LiveIn F s → LiveIn P s
 
--- The system of a history: its listed steps, by their places, its terminal states and its closed ones.
+-- The system of a history: its listed steps, by their places and whatever their keys, its terminal states and its closed ones.
 abbrev pub ListedAt : History → Arcs
-ListedAt h s p t = (p < length (listed h)) × (getD (listed h) p (edge 0 0) ≡ edge s t)
+ListedAt h s p t = (p < length (listed h)) × (getD (listed h) p (edge 0 0 0) .from ≡ s) × (getD (listed h) p (edge 0 0 0) .to ≡ t)
 
 abbrev pub system : History → System
 system h = record { Arc = ListedAt h; Goal = IsTerminal h; Final = IsClosed h }

@@ -23,9 +23,9 @@ pub no-states : (f : ℕ → ℕ) (marked : ℕ → Bool) (at : ℕ) (d : List �
 unfolding statesText
 no-states f marked at d = placed-none at d
 
-pub no-steps : (from to successor : ℕ → ℕ) (at : ℕ) (d : List ℕ) → WroteAt at (stepsText 0 from to successor) d d at
+pub no-steps : (from to key successor : ℕ → ℕ) (at : ℕ) (d : List ℕ) → WroteAt at (stepsText 0 from to key successor) d d at
 unfolding stepsText
-no-steps from to successor at d = placed-none at d
+no-steps from to key successor at d = placed-none at d
 
 -- one state more
 pub states-on : (f : ℕ → ℕ) (marked : ℕ → Bool) (s : ℕ) {x : ℕ} {b : Bool} {at : ℕ} {d e g : List ℕ} {r k : ℕ} → x ≡ f s → b ≡ marked s → WroteAt at (statesText s f marked) d e r → WroteAt r (stateText x b s) e g k → k ≤ length d → WroteAt at (statesText (s + 1) f marked) d g k
@@ -33,9 +33,9 @@ unfolding statesText
 states-on f marked s p q w v h = rw (add-one s) (placed-on w (rw (← p, ← q) v) h)
 
 -- one step more
-pub steps-on : (from to successor : ℕ → ℕ) (p : ℕ) {at : ℕ} {d e g : List ℕ} {r k : ℕ} → WroteAt at (stepsText p from to successor) d e r → WroteAt r (stepText (from p) (to p) (eqb (successor (from p)) p)) e g k → k ≤ length d → WroteAt at (stepsText (p + 1) from to successor) d g k
+pub steps-on : (from to key successor : ℕ → ℕ) (p : ℕ) {at : ℕ} {d e g : List ℕ} {r k : ℕ} → WroteAt at (stepsText p from to key successor) d e r → WroteAt r (stepText (from p) (to p) (key p) (eqb (successor (from p)) p)) e g k → k ≤ length d → WroteAt at (stepsText (p + 1) from to key successor) d g k
 unfolding stepsText
-steps-on from to successor p w v h = rw (add-one p) (placed-on w v h)
+steps-on from to key successor p w v h = rw (add-one p) (placed-on w v h)
 
 -- a line of its five parts
 pub line-placed : (a : ℕ) (middle : List ℕ) (b : ℕ) (ending : List ℕ) {at : ℕ} {d e₁ e₂ e₃ e₄ e₅ : List ℕ} {r₁ r₂ r₃ r₄ r₅ : ℕ} → WroteAt at indent d e₁ r₁ → WroteAt r₁ (decimal a) e₁ e₂ r₂ → WroteAt r₂ middle e₂ e₃ r₃ → WroteAt r₃ (decimal b) e₃ e₄ r₄ → WroteAt r₄ ending e₄ e₅ r₅ → r₅ ≤ length d → WroteAt at (line a middle b ending) d e₅ r₅
@@ -47,9 +47,9 @@ line-placed a middle b ending w₁ w₂ w₃ w₄ w₅ h =
     placed-on (placed-on (placed-on (placed-on w₁ w₂ (omega arith)) w₃ (omega arith)) w₄ (omega arith)) w₅ h
 
 -- the picture of its four parts
-pub drawn : (n m : ℕ) (f : ℕ → ℕ) (marked : ℕ → Bool) (from to successor : ℕ → ℕ) {at : ℕ} {d e₁ e₂ e₃ e₄ : List ℕ} {r₁ r₂ r₃ r₄ : ℕ} → WroteAt at opening d e₁ r₁ → WroteAt r₁ (statesText n f marked) e₁ e₂ r₂ → WroteAt r₂ (stepsText m from to successor) e₂ e₃ r₃ → WroteAt r₃ closing e₃ e₄ r₄ → r₄ ≤ length d → WroteAt at (drawing n m f marked from to successor) d e₄ r₄
+pub drawn : (n m : ℕ) (f : ℕ → ℕ) (marked : ℕ → Bool) (from to key successor : ℕ → ℕ) {at : ℕ} {d e₁ e₂ e₃ e₄ : List ℕ} {r₁ r₂ r₃ r₄ : ℕ} → WroteAt at opening d e₁ r₁ → WroteAt r₁ (statesText n f marked) e₁ e₂ r₂ → WroteAt r₂ (stepsText m from to key successor) e₂ e₃ r₃ → WroteAt r₃ closing e₃ e₄ r₄ → r₄ ≤ length d → WroteAt at (drawing n m f marked from to key successor) d e₄ r₄
 unfolding drawing
-drawn n m f marked from to successor w₁ w₂ w₃ w₄ h =
+drawn n m f marked from to key successor w₁ w₂ w₃ w₄ h =
     let q₄ = w₄ .after in
     let q₃ = w₃ .after in
     placed-on (placed-on (placed-on w₁ w₂ (omega arith)) w₃ (omega arith)) w₄ h

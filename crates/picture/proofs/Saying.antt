@@ -16,7 +16,7 @@ use Rattle.gid.proofs.Chains.{chain-map, same-rule}
 use Rattle.tables.specs.declared.Graph.{Graph}
 use Rattle.tables.specs.Marks.{hasTerminal}
 use Rattle.tables.specs.Tables.{Tables, Long}
-use Rattle.tables.specs.Fitting.{sources, targets, StepAt}
+use Rattle.tables.specs.Fitting.{sources, targets, keys, StepAt}
 use Rattle.reader.specs.Opening.{readerStates}
 use Rattle.reader.specs.Standing.{Standing}
 use Rattle.reader.specs.Reading.{recordLimit, recordGraph}
@@ -33,11 +33,11 @@ unfolding statesText
 states-same zero f g a b e q = refl
 states-same (suc n) f g a b e q = rw (states-same n f g a b (λ s h. e s (omega arith)) (λ s h. q s (omega arith)), e n (omega arith), q n (omega arith)) refl
 
-steps-same : (m : ℕ) (from to from′ to′ successor : ℕ → ℕ) → ((p : ℕ) → p < m → from p ≡ from′ p) → ((p : ℕ) → p < m → to p ≡ to′ p) → stepsText m from to successor ≡ stepsText m from′ to′ successor
+steps-same : (m : ℕ) (from to key from′ to′ key′ successor : ℕ → ℕ) → ((p : ℕ) → p < m → from p ≡ from′ p) → ((p : ℕ) → p < m → to p ≡ to′ p) → ((p : ℕ) → p < m → key p ≡ key′ p) → stepsText m from to key successor ≡ stepsText m from′ to′ key′ successor
 unfolding stepsText
-steps-same zero from to from′ to′ successor e q = refl
-steps-same (suc m) from to from′ to′ successor e q =
-    rw (steps-same m from to from′ to′ successor (λ p h. e p (omega arith)) (λ p h. q p (omega arith)), e m (omega arith), q m (omega arith)) refl
+steps-same zero from to key from′ to′ key′ successor e q k = refl
+steps-same (suc m) from to key from′ to′ key′ successor e q k =
+    rw (steps-same m from to key from′ to′ key′ successor (λ p h. e p (omega arith)) (λ p h. q p (omega arith)) (λ p h. k p (omega arith)), e m (omega arith), q m (omega arith), k m (omega arith)) refl
 
 -- the successor rule by entries that agree
 entries-same : (n : ℕ) (Arc : ℕ → ℕ → ℕ → Type 0) (status successor successor′ : ℕ → ℕ) → ((s : ℕ) → s < n → successor s ≡ successor′ s) → SuccessorRule n Arc status successor → SuccessorRule n Arc status successor′
@@ -64,6 +64,9 @@ module _ {h : History} {g : Graph} {t : Tables} (s : Standing recordGraph h g t)
   tos : (p : ℕ) → p < g .steps → getD (t .to) p 0 ≡ getD (targets h) p 0
   tos p z = sym (getD-take (g .steps) (t .to) p 0 z) ∙ ap (λ (l : List ℕ). getD l p 0) (s .fits .to)
 
+  bys : (p : ℕ) → p < g .steps → getD (t .key) p 0 ≡ getD (keys h) p 0
+  bys p z = sym (getD-take (g .steps) (t .key) p 0 z) ∙ ap (λ (l : List ℕ). getD l p 0) (s .fits .key)
+
   -- the tables' steps are the history's
   steps-listed : (a p b : ℕ) → StepAt (g .steps) (t .from) (t .to) a p b → StepAt (length (listed h)) (sources h) (targets h) a p b
   steps-listed a p b z = (omega (arith, z .0, s .fits .steps), sym (froms p (z .0)) ∙ z .1, sym (tos p (z .0)) ∙ z .2)
@@ -73,12 +76,12 @@ module _ {h : History} {g : Graph} {t : Tables} (s : Standing recordGraph h g t)
   roomy = long-enough readerStates readerStates recordLimit t (s .long) .1
 
   -- every step is drawn
-  all-drawn : drawnSteps (g .steps) (length (t .from)) (length (t .to)) ≡ g .steps
+  all-drawn : drawnSteps (g .steps) (length (t .from)) (length (t .to)) (length (t .key)) ≡ g .steps
   all-drawn =
-      rw (le-ltb maxSteps (g .steps) (omega (arith, s .room)), le-ltb (length (t .from)) (g .steps) (omega (arith, s .room, roomy .from)), le-ltb (length (t .to)) (g .steps) (omega (arith, s .room, roomy .to)))
+      rw (le-ltb maxSteps (g .steps) (omega (arith, s .room)), le-ltb (length (t .from)) (g .steps) (omega (arith, s .room, roomy .from)), le-ltb (length (t .to)) (g .steps) (omega (arith, s .room, roomy .to)), le-ltb (length (t .key)) (g .steps) (omega (arith, s .room, roomy .key)))
 
   -- The picture of the tables is the picture of the history.
-  pub picture-says : Shows readerStates h (picture readerStates (drawnSteps (g .steps) (length (t .from)) (length (t .to))) (t .status) (t .marks) (t .from) (t .to) (t .successor))
+  pub picture-says : Shows readerStates h (picture readerStates (drawnSteps (g .steps) (length (t .from)) (length (t .to)) (length (t .key))) (t .status) (t .marks) (t .from) (t .to) (t .key) (t .successor))
   unfolding drawing
   picture-says =
       record {
@@ -88,5 +91,5 @@ module _ {h : History} {g : Graph} {t : Tables} (s : Standing recordGraph h g t)
             (same-rule readerStates (StepAt (g .steps) (t .from) (t .to)) (StepAt (length (listed h)) (sources h) (targets h)) (λ x. getD (t .status) x 0) (status h) (λ x. getD (t .successor) x 0) steps-listed (λ x z. sym (statuses x z))
             (subst (λ (n : ℕ). SuccessorRule n (StepAt (g .steps) (t .from) (t .to)) (λ x. getD (t .status) x 0) (λ x. getD (t .successor) x 0)) (s .states) (s .fits .successor)));
         bytes =
-            rw (all-drawn, states-same readerStates (λ x. getD (t .status) x 0) (status h) (λ x. hasTerminal (getD (t .marks) x 0)) (isTerminal h) statuses terminals, steps-same (g .steps) (λ p. getD (t .from) p 0) (λ p. getD (t .to) p 0) (λ p. getD (sources h) p 0) (λ p. getD (targets h) p 0) picks froms tos, s .fits .steps) refl;
+            rw (all-drawn, states-same readerStates (λ x. getD (t .status) x 0) (status h) (λ x. hasTerminal (getD (t .marks) x 0)) (isTerminal h) statuses terminals, steps-same (g .steps) (λ p. getD (t .from) p 0) (λ p. getD (t .to) p 0) (λ p. getD (t .key) p 0) (λ p. getD (sources h) p 0) (λ p. getD (targets h) p 0) (λ p. getD (keys h) p 0) picks froms tos bys, s .fits .steps) refl;
       }

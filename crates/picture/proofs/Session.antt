@@ -30,7 +30,7 @@ pub progress-begun : {t t′ : Tables} {d : Drawer} {output : List ℕ} → Begi
 progress-begun {t} b e = rw (b .drawer, b .tables, e) (reads refl (record { lines = []; told = λ rest. sym (run-items rest); stands = opened-stands recordLimit t e }))
 
 -- What is drawn from tables that stand for some lines.
-shown : (d : Drawer) {t : Tables} {output output′ : List ℕ} {l : List Item} → Standing recordGraph (afterItems recordGraph [] l) (d .reader .engine .graph) t → WroteAt 0 (pictureBy (d .reader) (t .status) (t .marks) (t .from) (t .to) (t .successor)) output output′ (d .end) → (input : List ℕ) → items input ≡ l → Shows (recordGraph .n) (historyOf recordLimit input) (take (d .end) output′)
+shown : (d : Drawer) {t : Tables} {output output′ : List ℕ} {l : List Item} → Standing recordGraph (afterItems recordGraph [] l) (d .reader .engine .graph) t → WroteAt 0 (pictureBy (d .reader) (t .status) (t .marks) (t .from) (t .to) (t .key) (t .successor)) output output′ (d .end) → (input : List ℕ) → items input ≡ l → Shows (recordGraph .n) (historyOf recordLimit input) (take (d .end) output′)
 shown d {l = l} s w input e =
     let z : historyOf recordLimit input ≡ afterItems recordGraph [] l = ap (afterItems recordGraph []) e in
     rw (z, placed-take w (omega arith)) (picture-says s)

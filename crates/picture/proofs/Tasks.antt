@@ -45,19 +45,23 @@ pub begins-ready : {t t′ : Tables} {r : Opened} {e : Engine} {s : Reader} → 
 begins-ready o q z = let p = ready-opened o q in record { drawer = rw (p .0, ← p .1, ← z .0, ← z .1); tables = o .tables }
 
 -- no more steps are drawn than there can be, and than the tables have
-pub drawn-within : (steps from to : ℕ) → (drawnSteps steps from to ≤ maxSteps) × (drawnSteps steps from to ≤ from) × (drawnSteps steps from to ≤ to)
-drawn-within steps from to = by (ltb maxSteps steps) (ltb from steps) (ltb to steps) refl refl refl
+pub drawn-within : (steps from to key : ℕ) → (drawnSteps steps from to key ≤ maxSteps) × (drawnSteps steps from to key ≤ from) × (drawnSteps steps from to key ≤ to) × (drawnSteps steps from to key ≤ key)
+drawn-within steps from to key = by (ltb maxSteps steps) (ltb from steps) (ltb to steps) (ltb key steps) refl refl refl refl
   where
-    by : (p q r : Bool) → ltb maxSteps steps ≡ p → ltb from steps ≡ q → ltb to steps ≡ r → (cond p 0 (cond q 0 (cond r 0 steps)) ≤ maxSteps) × (cond p 0 (cond q 0 (cond r 0 steps)) ≤ from) × (cond p 0 (cond q 0 (cond r 0 steps)) ≤ to)
-    by true q r a b c = (omega arith, omega arith, omega arith)
-    by false true r a b c = (omega arith, omega arith, omega arith)
-    by false false true a b c = (omega arith, omega arith, omega arith)
-    by false false false a b c = (ltb-false maxSteps steps a, ltb-false from steps b, ltb-false to steps c)
+    drawn : (p q r o : Bool) → ℕ
+    drawn p q r o = cond p 0 (cond q 0 (cond r 0 (cond o 0 steps)))
+
+    by : (p q r o : Bool) → ltb maxSteps steps ≡ p → ltb from steps ≡ q → ltb to steps ≡ r → ltb key steps ≡ o → (drawn p q r o ≤ maxSteps) × (drawn p q r o ≤ from) × (drawn p q r o ≤ to) × (drawn p q r o ≤ key)
+    by true q r o a b c d = (omega arith, omega arith, omega arith, omega arith)
+    by false true r o a b c d = (omega arith, omega arith, omega arith, omega arith)
+    by false false true o a b c d = (omega arith, omega arith, omega arith, omega arith)
+    by false false false true a b c d = (omega arith, omega arith, omega arith, omega arith)
+    by false false false false a b c d = (ltb-false maxSteps steps a, ltb-false from steps b, ltb-false to steps c, ltb-false key steps d)
 
 -- The lines of a piece have been read,
 draws-piece :
     (d : Drawer) (piece output : List ℕ) {t t′ : Tables} {r : Reader} {left : List ℕ} {o : LineAnswer} {d′ : Drawer} {output′ : List ℕ} → Advances UntilEnd (d .reader .splitter) piece (d .reader .engine .graph) t (r .splitter) left (r .engine .graph) t′ o →
-    0 < length piece → AfterPiece r (length piece) (t′ .status) (t′ .marks) (t′ .from) (t′ .to) (t′ .successor) output d′ output′ → Draws d piece output t d′ output′ t′
+    0 < length piece → AfterPiece r (length piece) (t′ .status) (t′ .marks) (t′ .from) (t′ .to) (t′ .key) (t′ .successor) output d′ output′ → Draws d piece output t d′ output′ t′
 draws-piece d piece output a h (continues i s q z) = rw q (goes-on (a .follows) (only-ended (a .stops)) i s refl refl z)
 draws-piece d piece output a h (stops i s (closes q w z)) = rw q (stopped (a .follows) s refl w z)
 draws-piece d piece output a h (ends e c) = absurd (omega arith)
@@ -66,7 +70,7 @@ draws-piece d piece output a h (ends e c) = absurd (omega arith)
 pub draws-by :
     (d : Drawer) (piece output : List ℕ) {part newline : List ℕ} {t t′ : Tables} {r : Reader} {left : List ℕ} {o : LineAnswer} {d′ : Drawer} {output′ : List ℕ} → part ≡ pieceOr piece newline → newline ≡ lastNewline (d .reader .splitter) →
     Advances UntilEnd (d .reader .splitter) part (d .reader .engine .graph) t (r .splitter) left (r .engine .graph) t′ o →
-    AfterPiece r (length piece) (t′ .status) (t′ .marks) (t′ .from) (t′ .to) (t′ .successor) output d′ output′ → Draws d piece output t d′ output′ t′
+    AfterPiece r (length piece) (t′ .status) (t′ .marks) (t′ .from) (t′ .to) (t′ .key) (t′ .successor) output d′ output′ → Draws d piece output t d′ output′ t′
 draws-by d (b ∷ piece) output {t = t} {t′ = t′} {r = r} {left = left} {o = o} q n a f =
     draws-piece d (b ∷ piece) output (subst (λ (x : List ℕ). Advances UntilEnd (d .reader .splitter) x (d .reader .engine .graph) t (r .splitter) left (r .engine .graph) t′ o) q a) (omega arith) f
 draws-by d [] output q n a (continues i s z w) = absurd (omega arith)

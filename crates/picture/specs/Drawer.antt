@@ -29,22 +29,22 @@ pub record BeginsDrawing (t : Tables) (r : Drawer) (t′ : Tables) : Type 0 wher
   pub tables : t′ ≡ openedTables recordLimit t (openRefusal recordLimit t)
 
 -- How many steps are drawn: those counted, where they are no more than there can be and the tables have so many; else none.
-abbrev pub drawnSteps : ℕ → ℕ → ℕ → ℕ
-drawnSteps steps from to = cond (ltb maxSteps steps) 0 (cond (ltb from steps) 0 (cond (ltb to steps) 0 steps))
+abbrev pub drawnSteps : (steps from to key : ℕ) → ℕ
+drawnSteps steps from to key = cond (ltb maxSteps steps) 0 (cond (ltb from steps) 0 (cond (ltb to steps) 0 (cond (ltb key steps) 0 steps)))
 
 -- The picture of a reader's tables, over the states that a reader makes them fresh for.
-abbrev pub pictureBy : Reader → (status marks from to successor : List ℕ) → List ℕ
-pictureBy r status marks from to successor = picture readerStates (drawnSteps (r .engine .graph .steps) (length from) (length to)) status marks from to successor
+abbrev pub pictureBy : Reader → (status marks from to key successor : List ℕ) → List ℕ
+pictureBy r status marks from to key successor = picture readerStates (drawnSteps (r .engine .graph .steps) (length from) (length to) (length key)) status marks from to key successor
 
 -- The picture has been written: that is all.
-pub data PutsPicture (r : Reader) (status marks from to successor output : List ℕ) (d : Drawer) (output′ : List ℕ) : Type 0 where
-  closes : {end : ℕ} → d ≡ record { reader = r; end = end; task = End } → WroteAt 0 (pictureBy r status marks from to successor) output output′ end → end ≤ length output → PutsPicture r status marks from to successor output d output′
+pub data PutsPicture (r : Reader) (status marks from to key successor output : List ℕ) (d : Drawer) (output′ : List ℕ) : Type 0 where
+  closes : {end : ℕ} → d ≡ record { reader = r; end = end; task = End } → WroteAt 0 (pictureBy r status marks from to key successor) output output′ end → end ≤ length output → PutsPicture r status marks from to key successor output d output′
 
 -- What is to be done after a piece of `given` bytes.
-pub data AfterPiece (r : Reader) (given : ℕ) (status marks from to successor output : List ℕ) (d : Drawer) (output′ : List ℕ) : Type 0 where
-  continues : 0 < given → r .splitter .stopped ≡ false → d ≡ record { reader = r; end = 0; task = Read } → output′ ≡ output → AfterPiece r given status marks from to successor output d output′
-  stops : 0 < given → r .splitter .stopped ≡ true → PutsPicture r status marks from to successor output d output′ → AfterPiece r given status marks from to successor output d output′
-  ends : given ≡ 0 → PutsPicture r status marks from to successor output d output′ → AfterPiece r given status marks from to successor output d output′
+pub data AfterPiece (r : Reader) (given : ℕ) (status marks from to key successor output : List ℕ) (d : Drawer) (output′ : List ℕ) : Type 0 where
+  continues : 0 < given → r .splitter .stopped ≡ false → d ≡ record { reader = r; end = 0; task = Read } → output′ ≡ output → AfterPiece r given status marks from to key successor output d output′
+  stops : 0 < given → r .splitter .stopped ≡ true → PutsPicture r status marks from to key successor output d output′ → AfterPiece r given status marks from to key successor output d output′
+  ends : given ≡ 0 → PutsPicture r status marks from to key successor output d output′ → AfterPiece r given status marks from to key successor output d output′
 
 -- A call: the output is too short; or the lines of the piece are read; and where reading has stopped, or the input has ended, the picture of the tables is written.
 pub data Draws (d : Drawer) (piece output : List ℕ) (t : Tables) (d′ : Drawer) (output′ : List ℕ) (t′ : Tables) : Type 0 where
@@ -54,7 +54,7 @@ pub data Draws (d : Drawer) (piece output : List ℕ) (t : Tables) (d′ : Drawe
       d′ .task ≡ Read → d′ .end ≡ 0 → output′ ≡ output → Draws d piece output t d′ output′ t′
   stopped :
       {left : List ℕ} → Follows (d .reader .splitter) piece (d .reader .engine .graph) t (d′ .reader .splitter) left (d′ .reader .engine .graph) t′ → d′ .reader .splitter .stopped ≡ true →
-      d′ .task ≡ End → WroteAt 0 (pictureBy (d′ .reader) (t′ .status) (t′ .marks) (t′ .from) (t′ .to) (t′ .successor)) output output′ (d′ .end) → d′ .end ≤ length output → Draws d piece output t d′ output′ t′
+      d′ .task ≡ End → WroteAt 0 (pictureBy (d′ .reader) (t′ .status) (t′ .marks) (t′ .from) (t′ .to) (t′ .key) (t′ .successor)) output output′ (d′ .end) → d′ .end ≤ length output → Draws d piece output t d′ output′ t′
   ended :
       {newline left : List ℕ} → piece ≡ [] → newline ≡ lastNewline (d .reader .splitter) → Follows (d .reader .splitter) newline (d .reader .engine .graph) t (d′ .reader .splitter) left (d′ .reader .engine .graph) t′ → left ≡ [] →
-      d′ .task ≡ End → WroteAt 0 (pictureBy (d′ .reader) (t′ .status) (t′ .marks) (t′ .from) (t′ .to) (t′ .successor)) output output′ (d′ .end) → d′ .end ≤ length output → Draws d piece output t d′ output′ t′
+      d′ .task ≡ End → WroteAt 0 (pictureBy (d′ .reader) (t′ .status) (t′ .marks) (t′ .from) (t′ .to) (t′ .key) (t′ .successor)) output output′ (d′ .end) → d′ .end ≤ length output → Draws d piece output t d′ output′ t′

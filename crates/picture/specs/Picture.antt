@@ -53,12 +53,12 @@ doubleEnd = 44 ∷ 32 ∷ 112 ∷ 101 ∷ 114 ∷ 105 ∷ 112 ∷ 104 ∷ 101 �
 abbrev pub singleEnd : List ℕ
 singleEnd = 93 ∷ 59 ∷ 10 ∷ []
 
--- The end of a step's line: ` [style=bold];`, `;`.
+-- The end of a step's line, behind its key: `", style=bold];`, `"];`.
 abbrev pub boldEnd : List ℕ
-boldEnd = 32 ∷ 91 ∷ 115 ∷ 116 ∷ 121 ∷ 108 ∷ 101 ∷ 61 ∷ 98 ∷ 111 ∷ 108 ∷ 100 ∷ 93 ∷ 59 ∷ 10 ∷ []
+boldEnd = 34 ∷ 44 ∷ 32 ∷ 115 ∷ 116 ∷ 121 ∷ 108 ∷ 101 ∷ 61 ∷ 98 ∷ 111 ∷ 108 ∷ 100 ∷ 93 ∷ 59 ∷ 10 ∷ []
 
 abbrev pub plainEnd : List ℕ
-plainEnd = 59 ∷ 10 ∷ []
+plainEnd = 34 ∷ 93 ∷ 59 ∷ 10 ∷ []
 
 -- Two numbers on a line, with what stands between and behind them.
 unfoldable pub line : ℕ → List ℕ → ℕ → List ℕ → List ℕ
@@ -79,24 +79,24 @@ unfoldable pub statesText : ℕ → (ℕ → ℕ) → (ℕ → Bool) → List �
 statesText zero status terminal = []
 statesText (suc s) status terminal = statesText s status terminal ++ stateText (status s) (terminal s) s
 
--- A step's line: `  0 -> 1 [style=bold];` or `  1 -> 0;`.
-abbrev pub stepText : ℕ → ℕ → Bool → List ℕ
-stepText from to bold = line from arrow to (cond bold boldEnd plainEnd)
+-- A step's line, labelled with its key: `  0 -> 1 [label="7", style=bold];` or `  1 -> 0 [label="7"];`.
+abbrev pub stepText : (from to key : ℕ) → Bool → List ℕ
+stepText from to key bold = line from arrow to labelled ++ decimal key ++ cond bold boldEnd plainEnd
 
 -- The first m steps, in list order. A step is bold where it is its source's successor.
-unfoldable pub stepsText : ℕ → (from to successor : ℕ → ℕ) → List ℕ
-stepsText zero from to successor = []
-stepsText (suc p) from to successor = stepsText p from to successor ++ stepText (from p) (to p) (eqb (successor (from p)) p)
+unfoldable pub stepsText : ℕ → (from to key successor : ℕ → ℕ) → List ℕ
+stepsText zero from to key successor = []
+stepsText (suc p) from to key successor = stepsText p from to key successor ++ stepText (from p) (to p) (key p) (eqb (successor (from p)) p)
 
 -- The picture of the first n states and the first m steps.
-unfoldable pub drawing : ℕ → ℕ → (status : ℕ → ℕ) → (terminal : ℕ → Bool) → (from to successor : ℕ → ℕ) → List ℕ
-drawing n m status terminal from to successor = opening ++ statesText n status terminal ++ stepsText m from to successor ++ closing
+unfoldable pub drawing : ℕ → ℕ → (status : ℕ → ℕ) → (terminal : ℕ → Bool) → (from to key successor : ℕ → ℕ) → List ℕ
+drawing n m status terminal from to key successor = opening ++ statesText n status terminal ++ stepsText m from to key successor ++ closing
 
 -- Read from tables, with any contents. A state past the end of its table is unseen, is not terminal and has no successor.
-abbrev pub picture : ℕ → ℕ → (status marks from to successor : List ℕ) → List ℕ
-picture n m status marks from to successor =
-    drawing n m (λ s. getD status s 0) (λ s. hasTerminal (getD marks s 0)) (λ p. getD from p 0) (λ p. getD to p 0) (λ s. getD successor s noSuccessor)
+abbrev pub picture : ℕ → ℕ → (status marks from to key successor : List ℕ) → List ℕ
+picture n m status marks from to key successor =
+    drawing n m (λ s. getD status s 0) (λ s. hasTerminal (getD marks s 0)) (λ p. getD from p 0) (λ p. getD to p 0) (λ p. getD key p 0) (λ s. getD successor s noSuccessor)
 
--- The room that a picture may take: 80 bytes for each of 2,048 states and 32 for each of 8,192 steps.
+-- The room that a picture may take: 80 bytes for each of 2,048 states and 48 for each of 8,192 steps.
 abbrev pub pictureRoom : ℕ
-pictureRoom = 425984
+pictureRoom = 557056

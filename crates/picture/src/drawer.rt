@@ -32,6 +32,7 @@ pub fn begin(
     marks: &mut [u8],
     from: &mut [u16],
     to: &mut [u16],
+    key: &mut [u8],
     successor: &mut [u16],
     news: &mut [u16],
     in_head: &mut [u16],
@@ -41,7 +42,7 @@ pub fn begin(
     in_next: &mut [u16],
     out_next: &mut [u16],
 ) -> Drawer
-    ensures { λ r. ⌜ BeginsDrawing ((tablesOf (now (status .entry)) (now (marks .entry)) (now (from .entry)) (now (to .entry)) (now (successor .entry)) (now (news .entry)) (now («in_head» .entry)) (now («out_head» .entry)) (now (queue .entry)) (now (visited .entry)) (now («in_next» .entry)) (now («out_next» .entry)))) r ((tablesOf (now (status .exit)) (now (marks .exit)) (now (from .exit)) (now (to .exit)) (now (successor .exit)) (now (news .exit)) (now («in_head» .exit)) (now («out_head» .exit)) (now (queue .exit)) (now (visited .exit)) (now («in_next» .exit)) (now («out_next» .exit)))) ⌝ }
+    ensures { λ r. ⌜ BeginsDrawing ((tablesOf (now (status .entry)) (now (marks .entry)) (now (from .entry)) (now (to .entry)) (now (key .entry)) (now (successor .entry)) (now (news .entry)) (now («in_head» .entry)) (now («out_head» .entry)) (now (queue .entry)) (now (visited .entry)) (now («in_next» .entry)) (now («out_next» .entry)))) r ((tablesOf (now (status .exit)) (now (marks .exit)) (now (from .exit)) (now (to .exit)) (now (key .exit)) (now (successor .exit)) (now (news .exit)) (now («in_head» .exit)) (now («out_head» .exit)) (now (queue .exit)) (now (visited .exit)) (now («in_next» .exit)) (now («out_next» .exit)))) ⌝ }
 {
     let opened = reader::open(
         RECORD_LIMIT,
@@ -49,6 +50,7 @@ pub fn begin(
         marks,
         from,
         to,
+        key,
         successor,
         news,
         in_head,
@@ -94,6 +96,7 @@ pub fn draw(
     marks: &mut [u8],
     from: &mut [u16],
     to: &mut [u16],
+    key: &mut [u8],
     successor: &mut [u16],
     news: &mut [u16],
     in_head: &mut [u16],
@@ -103,7 +106,7 @@ pub fn draw(
     in_next: &mut [u16],
     out_next: &mut [u16],
 ) -> Drawer
-    ensures { λ r. ⌜ Draws drawer (now (piece .entry)) (now (output .entry)) ((tablesOf (now (status .entry)) (now (marks .entry)) (now (from .entry)) (now (to .entry)) (now (successor .entry)) (now (news .entry)) (now («in_head» .entry)) (now («out_head» .entry)) (now (queue .entry)) (now (visited .entry)) (now («in_next» .entry)) (now («out_next» .entry)))) r (now (output .exit)) ((tablesOf (now (status .exit)) (now (marks .exit)) (now (from .exit)) (now (to .exit)) (now (successor .exit)) (now (news .exit)) (now («in_head» .exit)) (now («out_head» .exit)) (now (queue .exit)) (now (visited .exit)) (now («in_next» .exit)) (now («out_next» .exit)))) ⌝ }
+    ensures { λ r. ⌜ Draws drawer (now (piece .entry)) (now (output .entry)) ((tablesOf (now (status .entry)) (now (marks .entry)) (now (from .entry)) (now (to .entry)) (now (key .entry)) (now (successor .entry)) (now (news .entry)) (now («in_head» .entry)) (now («out_head» .entry)) (now (queue .entry)) (now (visited .entry)) (now («in_next» .entry)) (now («out_next» .entry)))) r (now (output .exit)) ((tablesOf (now (status .exit)) (now (marks .exit)) (now (from .exit)) (now (to .exit)) (now (key .exit)) (now (successor .exit)) (now (news .exit)) (now («in_head» .exit)) (now («out_head» .exit)) (now (queue .exit)) (now (visited .exit)) (now («in_next» .exit)) (now («out_next» .exit)))) ⌝ }
 {
     let reader = drawer.reader;
     if output.len() < PICTURE_ROOM {
@@ -125,6 +128,7 @@ pub fn draw(
         marks,
         from,
         to,
+        key,
         successor,
         news,
         in_head,
@@ -143,6 +147,7 @@ pub fn draw(
         marks,
         from,
         to,
+        key,
         successor,
     )
 }
@@ -156,14 +161,15 @@ fn finish(
     marks: &[u8],
     from: &[u16],
     to: &[u16],
+    key: &[u8],
     successor: &[u16],
 ) -> Drawer
     requires { ⌜ pictureRoom ≤ length (now output) ⌝ }
-    ensures { λ r. ⌜ AfterPiece reader given (now (status .entry)) (now (marks .entry)) (now (from .entry)) (now (to .entry)) (now (successor .entry)) (now (output .entry)) r (now (output .exit)) ⌝ }
+    ensures { λ r. ⌜ AfterPiece reader given (now (status .entry)) (now (marks .entry)) (now (from .entry)) (now (to .entry)) (now (key .entry)) (now (successor .entry)) (now (output .entry)) r (now (output .exit)) ⌝ }
 {
     if 0 < given {
         if reader.is_over() {
-            return close(reader, output, status, marks, from, to, successor);
+            return close(reader, output, status, marks, from, to, key, successor);
         }
         return Drawer {
             reader,
@@ -171,7 +177,7 @@ fn finish(
             task: Task::Read,
         };
     }
-    close(reader, output, status, marks, from, to, successor)
+    close(reader, output, status, marks, from, to, key, successor)
 }
 
 fn close(
@@ -181,15 +187,16 @@ fn close(
     marks: &[u8],
     from: &[u16],
     to: &[u16],
+    key: &[u8],
     successor: &[u16],
 ) -> Drawer
     requires { ⌜ pictureRoom ≤ length (now output) ⌝ }
-    ensures { λ r. ⌜ PutsPicture reader (now (status .entry)) (now (marks .entry)) (now (from .entry)) (now (to .entry)) (now (successor .entry)) (now (output .entry)) r (now (output .exit)) ⌝ }
+    ensures { λ r. ⌜ PutsPicture reader (now (status .entry)) (now (marks .entry)) (now (from .entry)) (now (to .entry)) (now (key .entry)) (now (successor .entry)) (now (output .entry)) r (now (output .exit)) ⌝ }
 {
     let engine = reader.engine;
     let graph = engine.graph;
-    let m = drawn_steps(graph.steps, from.len(), to.len());
-    let end = put_picture(output, 0, m, status, marks, from, to, successor);
+    let m = drawn_steps(graph.steps, from.len(), to.len(), key.len());
+    let end = put_picture(output, 0, m, status, marks, from, to, key, successor);
     Drawer {
         reader,
         end,
@@ -198,8 +205,8 @@ fn close(
 }
 
 // How many steps are drawn: those counted, where the tables have so many.
-fn drawn_steps(steps: usize, from: usize, to: usize) -> usize
-    ensures { λ r. ⌜ r ≡ drawnSteps steps from to ⌝ }
+fn drawn_steps(steps: usize, from: usize, to: usize, key: usize) -> usize
+    ensures { λ r. ⌜ r ≡ drawnSteps steps from to key ⌝ }
 {
     if MAX_STEPS < steps {
         return 0;
@@ -208,6 +215,9 @@ fn drawn_steps(steps: usize, from: usize, to: usize) -> usize
         return 0;
     }
     if to < steps {
+        return 0;
+    }
+    if key < steps {
         return 0;
     }
     steps

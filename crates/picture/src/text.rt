@@ -20,7 +20,7 @@ use tables::has_terminal;
 use tables::status_of;
 
 // The room that is to be left in the buffer for a picture.
-pub const PICTURE_ROOM: usize = 425984;
+pub const PICTURE_ROOM: usize = 557056;
 
 // The whole picture, of tables with any contents.
 pub fn put_picture(
@@ -31,10 +31,11 @@ pub fn put_picture(
     marks: &[u8],
     from: &[u16],
     to: &[u16],
+    key: &[u8],
     successor: &[u16],
 ) -> usize
-    requires { ⌜ (m ≤ maxSteps) × (m ≤ length (now from)) × (m ≤ length (now to)) × (at + pictureRoom ≤ length (now buf)) ⌝ }
-    ensures { λ r. ⌜ WroteAt at (picture readerStates m (now (status .entry)) (now (marks .entry)) (now (from .entry)) (now (to .entry)) (now (successor .entry))) (now (buf .entry)) (now (buf .exit)) r × (r ≤ at + pictureRoom) ⌝ }
+    requires { ⌜ (m ≤ maxSteps) × (m ≤ length (now from)) × (m ≤ length (now to)) × (m ≤ length (now key)) × (at + pictureRoom ≤ length (now buf)) ⌝ }
+    ensures { λ r. ⌜ WroteAt at (picture readerStates m (now (status .entry)) (now (marks .entry)) (now (from .entry)) (now (to .entry)) (now (key .entry)) (now (successor .entry))) (now (buf .entry)) (now (buf .exit)) r × (r ≤ at + pictureRoom) ⌝ }
 {
     let states = put_bytes_at(
         buf,
@@ -42,7 +43,7 @@ pub fn put_picture(
         b"digraph verdicts {\n  rankdir=LR;\n  node [style=filled];\n",
     );
     let steps = put_states(buf, states, status, marks);
-    let end = put_steps(buf, steps, m, from, to, successor);
+    let end = put_steps(buf, steps, m, from, to, key, successor);
     put_bytes_at(buf, end, b"}\n")
 }
 
@@ -99,10 +100,11 @@ fn put_steps(
     m: usize,
     from: &[u16],
     to: &[u16],
+    key: &[u8],
     successor: &[u16],
 ) -> usize
-    requires { ⌜ (m ≤ length (now from)) × (m ≤ length (now to)) × (at + 31 * m ≤ length (now buf)) ⌝ }
-    ensures { λ r. ⌜ WroteAt at (stepsText m (λ p. getD (now (from .entry)) p 0) (λ p. getD (now (to .entry)) p 0) (λ s. getD (now (successor .entry)) s noSuccessor)) (now (buf .entry)) (now (buf .exit)) r × (r ≤ at + 31 * m) ⌝ }
+    requires { ⌜ (m ≤ length (now from)) × (m ≤ length (now to)) × (m ≤ length (now key)) × (at + 46 * m ≤ length (now buf)) ⌝ }
+    ensures { λ r. ⌜ WroteAt at (stepsText m (λ p. getD (now (from .entry)) p 0) (λ p. getD (now (to .entry)) p 0) (λ p. getD (now (key .entry)) p 0) (λ s. getD (now (successor .entry)) s noSuccessor)) (now (buf .entry)) (now (buf .exit)) r × (r ≤ at + 46 * m) ⌝ }
 {
     let mut end = at;
     let mut p = 0;
@@ -110,20 +112,23 @@ fn put_steps(
         let source = from[p] as usize;
         let target = to[p] as usize;
         let bold = successor_of(successor, source) as usize == p;
-        end = put_step(buf, end, source, target, bold);
+        end = put_step(buf, end, source, target, key[p] as usize, bold);
         p += 1;
     }
     end
 }
 
-fn put_step(buf: &mut [u8], at: usize, from: usize, to: usize, bold: bool) -> usize
-    requires { ⌜ (from < 100000) × (to < 100000) × (at + 31 ≤ length (now buf)) ⌝ }
-    ensures { λ r. ⌜ WroteAt at (stepText from to bold) (now (buf .entry)) (now (buf .exit)) r × (r ≤ at + 31) ⌝ }
+// A step's line, labelled with its key.
+fn put_step(buf: &mut [u8], at: usize, from: usize, to: usize, key: usize, bold: bool) -> usize
+    requires { ⌜ (from < 100000) × (to < 100000) × (key < 100000) × (at + 46 ≤ length (now buf)) ⌝ }
+    ensures { λ r. ⌜ WroteAt at (stepText from to key bold) (now (buf .entry)) (now (buf .exit)) r × (r ≤ at + 46) ⌝ }
 {
+    let label = put_line(buf, at, from, b" -> ", to, b" [label=\"");
+    let end = put_number_at(buf, label, key);
     if bold {
-        return put_line(buf, at, from, b" -> ", to, b" [style=bold];\n");
+        return put_bytes_at(buf, end, b"\", style=bold];\n");
     }
-    put_line(buf, at, from, b" -> ", to, b";\n")
+    put_bytes_at(buf, end, b"\"];\n")
 }
 
 // Two numbers on a line, with what stands between and behind them.

@@ -70,11 +70,11 @@ asks-range bytes s t h =
 
 module _ (bytes : List ℕ) {s : ℕ} (below : s < readerStates) {t t₁ : Tables} {opened : Opened} (opens : Opens recordLimit t t₁ opened) where
   -- Tables that are too short.
-  pub asks-short : {k : ℕ} → opened ≡ NotOpened k → (k ≤ 12) × StatusAfter bytes s t t₁ (16 + k)
+  pub asks-short : {k : ℕ} → opened ≡ NotOpened k → (k ≤ 14) × StatusAfter bytes s t t₁ (16 + k)
   unfolding answerOn
   asks-short {k} q = at (openRefusal recordLimit t) refl
     where
-      at : (x : Option ℕ) → openRefusal recordLimit t ≡ x → (k ≤ 12) × StatusAfter bytes s t t₁ (16 + k)
+      at : (x : Option ℕ) → openRefusal recordLimit t ≡ x → (k ≤ 14) × StatusAfter bytes s t t₁ (16 + k)
       at none e = absurd (let y = opens .answer in let z : _≡_ {A = ℕ} 0 1 = cc in omega arith)
       at (some j) e =
           let z : k ≡ j = let y = opens .answer in cc in

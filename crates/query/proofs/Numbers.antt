@@ -1,4 +1,4 @@
--- The numbers of the refusals are at most 12.
+-- The numbers of the refusals are at most 14.
 -- Assumes nothing.
 use mathlib.Core.Path.{_≡_, sym}
 use mathlib.Core.Bool.{Bool, true, false, cond}
@@ -26,13 +26,13 @@ use Rattle.query.specs.Answering.{Few}
 
 abbrev AllFew : List Rule → Type 0
 AllFew [] = Unit {0}
-AllFew (r ∷ l) = (r .number ≤ 12) × AllFew l
+AllFew (r ∷ l) = (r .number ≤ 14) × AllFew l
 
-first-few : (l : List Rule) → AllFew l → (k : ℕ) → first l ≡ some k → k ≤ 12
+first-few : (l : List Rule) → AllFew l → (k : ℕ) → first l ≡ some k → k ≤ 14
 first-few [] b k e = absurd (let z : _≡_ {A = ℕ} 0 1 = cc in omega arith)
 first-few (r ∷ l) b k e = by (r .applies) (first-few l (b .1) k) e
   where
-    by : (c : Bool) → (first l ≡ some k → k ≤ 12) → cond c (some (r .number)) (first l) ≡ some k → k ≤ 12
+    by : (c : Bool) → (first l ≡ some k → k ≤ 14) → cond c (some (r .number)) (first l) ≡ some k → k ≤ 14
     by true i q = let z : r .number ≡ k = cc in omega (arith, b .0)
     by false i q = i q
 
@@ -40,7 +40,7 @@ lent-few : (g : Given) (l : List Rule) → AllFew l → AllFew (lent g ++ l)
 lent-few g l a = (omega arith, (omega arith, (omega arith, (omega arith, a))))
 
 sent-few : (g : Given) (x : Update) → AllFew (sent g x)
-sent-few g (Step e) = (omega arith, (omega arith, (omega arith, tt)))
+sent-few g (Step e) = (omega arith, (omega arith, (omega arith, (omega arith, tt))))
 sent-few g (Terminal u) = (omega arith, (omega arith, tt))
 sent-few g (Close u) = (omega arith, tt)
 
@@ -73,7 +73,7 @@ pub advances-few : {until : Until} {s s′ : Splitter} {bytes left : List ℕ} {
 advances-few a = stops-few (a .follows .applied) (a .stops)
 
 -- and of the tables.
-pub open-few : (limit : ℕ) (t : Tables) (k : ℕ) → openRefusal limit t ≡ some k → k ≤ 12
+pub open-few : (limit : ℕ) (t : Tables) (k : ℕ) → openRefusal limit t ≡ some k → k ≤ 14
 open-few limit t k e =
     let v = given (readerGraph limit) (longEnough (readerGraph limit) t) false [] in
     first-few (lent v) (lent-few v [] tt) k e

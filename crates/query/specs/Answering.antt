@@ -61,4 +61,4 @@ refusedOr (Refused line k) b = 16 + k
 abbrev pub Few : LineAnswer → Type 0
 Few Nothing = Unit {0}
 Few (Accepted line k) = Unit {0}
-Few (Refused line k) = k ≤ 12
+Few (Refused line k) = k ≤ 14

@@ -23,6 +23,7 @@ pub fn status_after(
     marks: &mut [u8],
     from: &mut [u16],
     to: &mut [u16],
+    key: &mut [u8],
     successor: &mut [u16],
     news: &mut [u16],
     in_head: &mut [u16],
@@ -32,7 +33,7 @@ pub fn status_after(
     in_next: &mut [u16],
     out_next: &mut [u16],
 ) -> u8
-    ensures { λ r. ⌜ StatusAfter (now (bytes .entry)) state ((tablesOf (now (status .entry)) (now (marks .entry)) (now (from .entry)) (now (to .entry)) (now (successor .entry)) (now (news .entry)) (now («in_head» .entry)) (now («out_head» .entry)) (now (queue .entry)) (now (visited .entry)) (now («in_next» .entry)) (now («out_next» .entry)))) ((tablesOf (now (status .exit)) (now (marks .exit)) (now (from .exit)) (now (to .exit)) (now (successor .exit)) (now (news .exit)) (now («in_head» .exit)) (now («out_head» .exit)) (now (queue .exit)) (now (visited .exit)) (now («in_next» .exit)) (now («out_next» .exit)))) r ⌝ }
+    ensures { λ r. ⌜ StatusAfter (now (bytes .entry)) state ((tablesOf (now (status .entry)) (now (marks .entry)) (now (from .entry)) (now (to .entry)) (now (key .entry)) (now (successor .entry)) (now (news .entry)) (now («in_head» .entry)) (now («out_head» .entry)) (now (queue .entry)) (now (visited .entry)) (now («in_next» .entry)) (now («out_next» .entry)))) ((tablesOf (now (status .exit)) (now (marks .exit)) (now (from .exit)) (now (to .exit)) (now (key .exit)) (now (successor .exit)) (now (news .exit)) (now («in_head» .exit)) (now («out_head» .exit)) (now (queue .exit)) (now (visited .exit)) (now («in_next» .exit)) (now («out_next» .exit)))) r ⌝ }
 {
     if MAX_STATES <= state {
         return REFUSED + OUT_OF_RANGE;
@@ -43,6 +44,7 @@ pub fn status_after(
         marks,
         from,
         to,
+        key,
         successor,
         news,
         in_head,
@@ -63,6 +65,7 @@ pub fn status_after(
                 marks,
                 from,
                 to,
+                key,
                 successor,
                 news,
                 in_head,
@@ -88,6 +91,7 @@ pub fn status_after(
                 marks,
                 from,
                 to,
+                key,
                 successor,
                 news,
                 in_head,

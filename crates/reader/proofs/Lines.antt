@@ -96,7 +96,7 @@ module _ {start : Graph} {h : History} {g : Graph} {t : Tables} (s : Standing st
 
   -- The reader's calls are those of a run.
   unchecked : Checked g t t
-  unchecked = record { status = refl; marks = refl; from = refl; to = refl; successor = refl; news = refl; sizes = refl; fits = λ k l c. c }
+  unchecked = record { status = refl; marks = refl; from = refl; to = refl; key = refl; successor = refl; news = refl; sizes = refl; fits = λ k l c. c }
 
   runs : {g₀ : Graph} {t₀ : Tables} {xs : List Update} {g′ : Graph} {t′ : Tables} (x : Update) (a : Answer) → Run g₀ t₀ xs h g t → Promise g x t g′ a t′ → Run g₀ t₀ (x ∷ xs) (after (start .n) (start .limit) h x) g′ t′
   unfolding outcome after

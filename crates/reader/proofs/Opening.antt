@@ -66,6 +66,7 @@ module _ (limit : ℕ) (t : Tables) where
           marks = filled-kept readerStates 0 (t .marks) (l .marks);
           from = kept-none limit (t .from);
           to = kept-none limit (t .to);
+          key = kept-none limit (t .key);
           successor = filled-kept readerStates 65535 (t .successor) (l .successor);
           news = kept-none readerStates (t .news);
           inHead = filled-kept readerStates 0 (t .inHead) (l .inHead);
@@ -82,7 +83,7 @@ pub freshened-by :
     st ≡ filled readerStates 0 (t .status) → ma ≡ filled readerStates 0 (t .marks) → su ≡ filled readerStates 65535 (t .successor) →
     ih ≡ filled readerStates 0 (t .inHead) → oh ≡ filled readerStates 0 (t .outHead) → qu ≡ filled readerStates 0 (t .queue) → vi ≡ filled (visitedLength readerStates) 0 (t .visited) →
     in′ ≡ filled limit 0 (t .inNext) → on ≡ filled limit 0 (t .outNext) →
-    tablesOf st ma (t .from) (t .to) su (t .news) ih oh qu vi in′ on ≡ freshened limit t
+    tablesOf st ma (t .from) (t .to) (t .key) su (t .news) ih oh qu vi in′ on ≡ freshened limit t
 freshened-by limit t a b c d e f g h k =
     λ i.
     record {
@@ -90,6 +91,7 @@ freshened-by limit t a b c d e f g h k =
       marks = b i;
       from = t .from;
       to = t .to;
+      key = t .key;
       successor = c i;
       news = t .news;
       inHead = d i;

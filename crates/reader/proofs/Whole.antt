@@ -18,6 +18,7 @@ use Rattle.record.specs.declared.splitter.Item.the-variants.{Nothing as NoLine,
 use Rattle.record.specs.declared.splitter.Splitter.{Splitter}
 use Rattle.record.specs.Items.{itemLine, items}
 use Rattle.record.specs.Splitting.{started, lastNewline}
+use Rattle.reader.specs.declared.ReadAnswer.{ReadAnswer}
 use Rattle.reader.specs.declared.ReadAnswer.the-variants.{Refused as NotRead}
 use Rattle.reader.specs.declared.start.Opened.{Opened}
 use Rattle.reader.specs.declared.start.Opened.the-variants.{Ready, Refused as NotOpened}
@@ -28,7 +29,7 @@ use Rattle.reader.specs.Opening.{readerStates, readerGraph, openRefusal,
 use Rattle.reader.specs.Turning.{Told, lineOutcome}
 use Rattle.reader.specs.Replaying.{outcomeOf, afterItem, historyOf, Refusal, orLater, firstRefusal}
 use Rattle.reader.specs.Standing.{Standing}
-use Rattle.reader.specs.Advancing.{Passed, itemsOf, Applies, none as no-line, next, waited, Quiet, Stops, found, ended, Advances}
+use Rattle.reader.specs.Advancing.{Passed, itemsOf, Applies, none as no-line, next, waited, Quiet, Stops, found, ended, Advances, ReadsRest, rests}
 use Rattle.reader.specs.Reading.{Reading, readOutcome, graphAfterRecord, readingOf, Reads, readBy, readWith}
 use Rattle.reader.proofs.Opening.{opened-kept}
 use Rattle.reader.proofs.Lines.{standing-graph, lineTold, line-right}
@@ -168,7 +169,7 @@ module _
   stands : Standing (readerGraph limit) (historyOf limit bytes) (e .graph) t₄
   stands = rw told (applies-stands stood applied)
 
-  pub reads-whole : Reads limit bytes t t₄ (readWith e o₁ o₃)
+  reads-whole : Reads limit bytes t t₄ (readWith e o₁ o₃)
   reads-whole =
       let g : e .graph ≡ graphAfterRecord limit bytes = standing-graph stands in
       record {
@@ -181,6 +182,12 @@ module _
         stands = λ q. rw g at stands;
         kept = tables-then (opened-kept limit t passes) (rw (begun .0, begun .1) at (applies-same applied .kept));
       }
+
+-- Put together from the two calls that read it.
+pub reads-by :
+    {limit : ℕ} {bytes : List ℕ} {t t₁ t₂ t₃ : Tables} {opened : Opened} {start opening : Engine} {s s₁ : Splitter} {g₁ : Graph} {left : List ℕ} {o : LineAnswer} {r : ReadAnswer} →
+    Opens limit t t₁ opened → opened ≡ Ready opening → s ≡ started → start ≡ opening → Advances UntilRefusal s bytes (start .graph) t₁ s₁ left g₁ t₂ o → ReadsRest s₁ left g₁ t₂ o t₃ r → Reads limit bytes t t₃ r
+reads-by opens ready begins same first (rests rest ends last over q) = rw q (reads-whole opens ready begins same first rest ends last over)
 
 -- the last part has been read to its end
 pub last-left : (part : List ℕ) (n : ℕ) → length part ≤ 1 → (0 < length part → 0 < n) → drop n part ≡ []

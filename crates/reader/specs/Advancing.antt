@@ -13,12 +13,15 @@ use Rattle.tables.specs.Keeping.{KeptTables}
 use Rattle.record.specs.declared.splitter.Item.{Item}
 use Rattle.record.specs.declared.splitter.Splitter.{Splitter}
 use Rattle.record.specs.Items.{maxLines}
-use Rattle.record.specs.Splitting.{run, afterBytes}
+use Rattle.record.specs.Splitting.{run, afterBytes, lastNewline}
+use Rattle.engine.specs.declared.Engine.{Engine}
 use Rattle.reader.specs.declared.driver.LineAnswer.{LineAnswer}
 use Rattle.reader.specs.declared.driver.LineAnswer.the-variants.{Nothing, Accepted, Refused}
 use Rattle.reader.specs.declared.driver.Until.{Until}
 use Rattle.reader.specs.declared.driver.Until.the-variants.{News, Refusal, End}
+use Rattle.reader.specs.declared.ReadAnswer.{ReadAnswer}
 use Rattle.reader.specs.Turning.{Came}
+use Rattle.reader.specs.Reading.{readWith}
 
 -- A line that was passed: what it is, what came of it, and the tables after it.
 pub record Passed : Type 0 where
@@ -78,3 +81,9 @@ pub record Advances (until : Until) (s : Splitter) (bytes : List ℕ) (g : Graph
   -- Where there is no byte to read, no line is passed.
   pub idle : bytes ≡ [] → follows .passed ≡ []
   pub bounded : Bounded answer (t′ .news)
+
+-- What is left of a record behind a line with the answer `first`: the lines up to the end of the bytes, and the last one where it lacks its newline. The answer is by what came of the first refusal.
+pub data ReadsRest (s : Splitter) (bytes : List ℕ) (g : Graph) (t : Tables) (first : LineAnswer) (t′ : Tables) (r : ReadAnswer) : Type 0 where
+  rests :
+      {s₁ s₂ : Splitter} {left newline over : List ℕ} {g₁ : Graph} {t₁ : Tables} {e : Engine} {o last : LineAnswer} →
+      Advances End s bytes g t s₁ left g₁ t₁ o → newline ≡ lastNewline s₁ → Advances Refusal s₁ newline g₁ t₁ s₂ over (e .graph) t′ last → over ≡ [] → r ≡ readWith e first last → ReadsRest s bytes g t first t′ r

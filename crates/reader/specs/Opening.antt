@@ -33,6 +33,7 @@ freshened limit t =
       marks = filled readerStates 0 (t .marks);
       from = t .from;
       to = t .to;
+      key = t .key;
       successor = filled readerStates noSuccessor (t .successor);
       news = t .news;
       inHead = filled readerStates 0 (t .inHead);

@@ -49,6 +49,7 @@ impl Reader {
         marks: &mut [u8],
         from: &mut [u16],
         to: &mut [u16],
+        key: &mut [u8],
         successor: &mut [u16],
         news: &mut [u16],
         in_head: &mut [u16],
@@ -59,7 +60,7 @@ impl Reader {
         out_next: &mut [u16],
     ) -> Turn
         ensures { λ r. ⌜ (at ≤ length (now (part .entry)) → r .next ≤ length (now (part .entry))) × (at < length (now (part .entry)) → at < r .next)
-            × Advances until (self .splitter) (drop at (now (part .entry))) (self .engine .graph) (tablesOf (now (status .entry)) (now (marks .entry)) (now (from .entry)) (now (to .entry)) (now (successor .entry)) (now (news .entry)) (now («in_head» .entry)) (now («out_head» .entry)) (now (queue .entry)) (now (visited .entry)) (now («in_next» .entry)) (now («out_next» .entry))) (r .reader .splitter) (drop (r .next) (now (part .entry))) (r .reader .engine .graph) (tablesOf (now (status .exit)) (now (marks .exit)) (now (from .exit)) (now (to .exit)) (now (successor .exit)) (now (news .exit)) (now («in_head» .exit)) (now («out_head» .exit)) (now (queue .exit)) (now (visited .exit)) (now («in_next» .exit)) (now («out_next» .exit))) (r .answer) ⌝ }
+            × Advances until (self .splitter) (drop at (now (part .entry))) (self .engine .graph) (tablesOf (now (status .entry)) (now (marks .entry)) (now (from .entry)) (now (to .entry)) (now (key .entry)) (now (successor .entry)) (now (news .entry)) (now («in_head» .entry)) (now («out_head» .entry)) (now (queue .entry)) (now (visited .entry)) (now («in_next» .entry)) (now («out_next» .entry))) (r .reader .splitter) (drop (r .next) (now (part .entry))) (r .reader .engine .graph) (tablesOf (now (status .exit)) (now (marks .exit)) (now (from .exit)) (now (to .exit)) (now (key .exit)) (now (successor .exit)) (now (news .exit)) (now («in_head» .exit)) (now («out_head» .exit)) (now (queue .exit)) (now (visited .exit)) (now («in_next» .exit)) (now («out_next» .exit))) (r .answer) ⌝ }
     {
         let mut current = self;
         let mut next = at;
@@ -71,6 +72,7 @@ impl Reader {
                 marks,
                 from,
                 to,
+                key,
                 successor,
                 news,
                 in_head,
@@ -108,6 +110,7 @@ impl Reader {
         marks: &mut [u8],
         from: &mut [u16],
         to: &mut [u16],
+        key: &mut [u8],
         successor: &mut [u16],
         news: &mut [u16],
         in_head: &mut [u16],
@@ -119,7 +122,7 @@ impl Reader {
     ) -> Turn
         ensures { λ r. ⌜ (r .next ≡ afterPart (self .splitter) (now (part .entry)) at .next)
             × (r .reader .splitter ≡ afterPart (self .splitter) (now (part .entry)) at .splitter)
-            × Came (afterPart (self .splitter) (now (part .entry)) at .item) (self .engine .graph) (tablesOf (now (status .entry)) (now (marks .entry)) (now (from .entry)) (now (to .entry)) (now (successor .entry)) (now (news .entry)) (now («in_head» .entry)) (now («out_head» .entry)) (now (queue .entry)) (now (visited .entry)) (now («in_next» .entry)) (now («out_next» .entry))) (r .reader .engine .graph) (tablesOf (now (status .exit)) (now (marks .exit)) (now (from .exit)) (now (to .exit)) (now (successor .exit)) (now (news .exit)) (now («in_head» .exit)) (now («out_head» .exit)) (now (queue .exit)) (now (visited .exit)) (now («in_next» .exit)) (now («out_next» .exit))) (r .answer) ⌝ }
+            × Came (afterPart (self .splitter) (now (part .entry)) at .item) (self .engine .graph) (tablesOf (now (status .entry)) (now (marks .entry)) (now (from .entry)) (now (to .entry)) (now (key .entry)) (now (successor .entry)) (now (news .entry)) (now («in_head» .entry)) (now («out_head» .entry)) (now (queue .entry)) (now (visited .entry)) (now («in_next» .entry)) (now («out_next» .entry))) (r .reader .engine .graph) (tablesOf (now (status .exit)) (now (marks .exit)) (now (from .exit)) (now (to .exit)) (now (key .exit)) (now (successor .exit)) (now (news .exit)) (now («in_head» .exit)) (now («out_head» .exit)) (now (queue .exit)) (now (visited .exit)) (now («in_next» .exit)) (now («out_next» .exit))) (r .answer) ⌝ }
     {
         let splitter = self.splitter;
         let advanced = splitter.feed_line(part, at);
@@ -137,6 +140,7 @@ impl Reader {
                     marks,
                     from,
                     to,
+                    key,
                     successor,
                     news,
                     in_head,

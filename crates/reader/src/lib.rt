@@ -2,7 +2,9 @@
 ghost use mathlib.Core.Path.{_≡_};
 ghost use Rattle.tables.specs.Tables.{tablesOf};
 ghost use Rattle.record.specs.Splitting.{started};
+ghost use lib.ListN.{drop};
 ghost use Rattle.reader.specs.Reading.{Reads, readBy, readWith};
+ghost use Rattle.reader.specs.Advancing.{ReadsRest};
 
 mod driver;
 mod start;
@@ -70,6 +72,7 @@ pub fn read(
     marks: &mut [u8],
     from: &mut [u16],
     to: &mut [u16],
+    key: &mut [u8],
     successor: &mut [u16],
     news: &mut [u16],
     in_head: &mut [u16],
@@ -79,7 +82,7 @@ pub fn read(
     in_next: &mut [u16],
     out_next: &mut [u16],
 ) -> ReadAnswer
-    ensures { λ r. ⌜ Reads limit (now (bytes .entry)) (tablesOf (now (status .entry)) (now (marks .entry)) (now (from .entry)) (now (to .entry)) (now (successor .entry)) (now (news .entry)) (now («in_head» .entry)) (now («out_head» .entry)) (now (queue .entry)) (now (visited .entry)) (now («in_next» .entry)) (now («out_next» .entry))) (tablesOf (now (status .exit)) (now (marks .exit)) (now (from .exit)) (now (to .exit)) (now (successor .exit)) (now (news .exit)) (now («in_head» .exit)) (now («out_head» .exit)) (now (queue .exit)) (now (visited .exit)) (now («in_next» .exit)) (now («out_next» .exit))) r ⌝ }
+    ensures { λ r. ⌜ Reads limit (now (bytes .entry)) (tablesOf (now (status .entry)) (now (marks .entry)) (now (from .entry)) (now (to .entry)) (now (key .entry)) (now (successor .entry)) (now (news .entry)) (now («in_head» .entry)) (now («out_head» .entry)) (now (queue .entry)) (now (visited .entry)) (now («in_next» .entry)) (now («out_next» .entry))) (tablesOf (now (status .exit)) (now (marks .exit)) (now (from .exit)) (now (to .exit)) (now (key .exit)) (now (successor .exit)) (now (news .exit)) (now («in_head» .exit)) (now («out_head» .exit)) (now (queue .exit)) (now (visited .exit)) (now («in_next» .exit)) (now («out_next» .exit))) r ⌝ }
 {
     let opened = open(
         limit,
@@ -87,6 +90,7 @@ pub fn read(
         marks,
         from,
         to,
+        key,
         successor,
         news,
         in_head,
@@ -108,6 +112,7 @@ pub fn read(
                 marks,
                 from,
                 to,
+                key,
                 successor,
                 news,
                 in_head,
@@ -119,14 +124,17 @@ pub fn read(
             );
             let refused = first.reader;
             let next = first.next;
-            let rest = refused.advance(
+            let answer = first.answer;
+            read_rest(
+                refused,
                 bytes,
                 next,
-                Until::End,
+                answer,
                 status,
                 marks,
                 from,
                 to,
+                key,
                 successor,
                 news,
                 in_head,
@@ -135,35 +143,77 @@ pub fn read(
                 visited,
                 in_next,
                 out_next,
-            );
-            let ended = rest.reader;
-            let splitter = ended.splitter;
-            let newline: &[u8] = b"\n";
-            let len = splitter.lacking();
-            let last = ended.advance(
-                &newline[..len],
-                0,
-                Until::Refusal,
-                status,
-                marks,
-                from,
-                to,
-                successor,
-                news,
-                in_head,
-                out_head,
-                queue,
-                visited,
-                in_next,
-                out_next,
-            );
-            let reader = last.reader;
-            let engine = reader.engine;
-            let before = first.answer;
-            let after = last.answer;
-            answer_with(engine, before, after)
+            )
         }
     }
+}
+
+// Reads what is left of a record behind its first refused line, and its last line. The answer is by what came of the first refused line, or of the last.
+fn read_rest(
+    reader: Reader,
+    bytes: &[u8],
+    at: usize,
+    first: LineAnswer,
+    status: &mut [u8],
+    marks: &mut [u8],
+    from: &mut [u16],
+    to: &mut [u16],
+    key: &mut [u8],
+    successor: &mut [u16],
+    news: &mut [u16],
+    in_head: &mut [u16],
+    out_head: &mut [u16],
+    queue: &mut [u16],
+    visited: &mut [u16],
+    in_next: &mut [u16],
+    out_next: &mut [u16],
+) -> ReadAnswer
+    ensures { λ r. ⌜ ReadsRest (reader .splitter) (drop at (now (bytes .entry))) (reader .engine .graph) (tablesOf (now (status .entry)) (now (marks .entry)) (now (from .entry)) (now (to .entry)) (now (key .entry)) (now (successor .entry)) (now (news .entry)) (now («in_head» .entry)) (now («out_head» .entry)) (now (queue .entry)) (now (visited .entry)) (now («in_next» .entry)) (now («out_next» .entry))) first (tablesOf (now (status .exit)) (now (marks .exit)) (now (from .exit)) (now (to .exit)) (now (key .exit)) (now (successor .exit)) (now (news .exit)) (now («in_head» .exit)) (now («out_head» .exit)) (now (queue .exit)) (now (visited .exit)) (now («in_next» .exit)) (now («out_next» .exit))) r ⌝ }
+{
+    let rest = reader.advance(
+        bytes,
+        at,
+        Until::End,
+        status,
+        marks,
+        from,
+        to,
+        key,
+        successor,
+        news,
+        in_head,
+        out_head,
+        queue,
+        visited,
+        in_next,
+        out_next,
+    );
+    let ended = rest.reader;
+    let splitter = ended.splitter;
+    let newline: &[u8] = b"\n";
+    let len = splitter.lacking();
+    let last = ended.advance(
+        &newline[..len],
+        0,
+        Until::Refusal,
+        status,
+        marks,
+        from,
+        to,
+        key,
+        successor,
+        news,
+        in_head,
+        out_head,
+        queue,
+        visited,
+        in_next,
+        out_next,
+    );
+    let over = last.reader;
+    let engine = over.engine;
+    let after = last.answer;
+    answer_with(engine, first, after)
 }
 
 // The answer, by what came of the first refused line, or of the last line.

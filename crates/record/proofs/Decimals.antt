@@ -54,8 +54,11 @@ by-digits m n k h ih z = by (decLt n 10)
     by (yes p) = rw (decimal-digit n p) (omega arith)
     by (no p) = rw (decimal-more n (omega arith)) (rw length-append (omega (arith, ih (n / 10) (omega arith))))
 
+pub two-digits : (n : ℕ) → n < 100 → length (decimal n) ≤ 2
+two-digits n h = by-digits 10 n 1 h (λ j p. rw (decimal-digit j p) (omega arith)) (omega arith)
+
 pub five-digits : (n : ℕ) → n < 100000 → length (decimal n) ≤ 5
-five-digits n h = by-digits 10000 n 4 h (λ j p. by-digits 1000 j 3 p (λ i q. by-digits 100 i 2 q (λ a r. by-digits 10 a 1 r (λ b s. rw (decimal-digit b s) (omega arith)) (omega arith)) (omega arith)) (omega arith)) (omega arith)
+five-digits n h = by-digits 10000 n 4 h (λ j p. by-digits 1000 j 3 p (λ i q. by-digits 100 i 2 q two-digits (omega arith)) (omega arith)) (omega arith)
 
 -- there is a first digit
 pub some-digit : (n : ℕ) → 0 < length (decimal n)

@@ -12,6 +12,7 @@ use lib.ListN.{length, getD, drop, drop-of-length-le}
 use lib.Seq.{drop-cons}
 use borrow.Author.Tests.{eq-eqb, ne-eqb, le-leb, lt-leb, leb-true}
 use Rattle.gid.specs.declared.Update.{Update}
+use Rattle.record.specs.declared.line.Form.{Form}
 use Rattle.record.specs.declared.grammar.Digit.{Digit}
 use Rattle.record.specs.declared.grammar.Digit.the-variants.{Of, Other}
 use Rattle.record.specs.declared.grammar.Value.{Value}
@@ -19,7 +20,7 @@ use Rattle.record.specs.declared.grammar.Value.the-variants.{Number, Mal
 use Rattle.record.specs.declared.grammar.After.{After}
 use Rattle.record.specs.declared.grammar.After.the-variants.{At, Malformed as NotThere}
 use Rattle.record.specs.Parsing.{digitOf, front, rest}
-use Rattle.record.specs.Grammar.{Front, isDigit, digits, value, behind, whole, markWith, update, fields, lineOf, _andThen_}
+use Rattle.record.specs.Grammar.{Front, isDigit, digits, value, behind, whole, noKey, markWith, update, fields, lineOf, _andThen_}
 
 pub is-digit : (b : ℕ) → 48 ≤ b → b ≤ 57 → isDigit b ≡ true
 is-digit b p q = rw (le-leb 48 b p, le-leb b 57 q)
@@ -54,9 +55,9 @@ module _ (l : List ℕ) (at : ℕ) where
     pub whole-end : (x : Update) → whole x (drop at l) ≡ some x
     whole-end x = rw (drop-of-length-le l h)
 
-    pub mark-end : (x : Update) → markWith x (drop at l) ≡ none
+    pub mark-end : (f : Form) (x : Update) → markWith f x (drop at l) ≡ none
     unfolding markWith
-    mark-end x = rw (behind-end 45)
+    mark-end f x = rw (behind-end 45)
 
   module _ (h : at < length l) where
     pub behind-same : (b : ℕ) → getD l at 0 ≡ b → behind b (drop at l) ≡ some (drop (at + 1) l)
@@ -94,13 +95,13 @@ module _ (l : List ℕ) (at : ℕ) where
     unfolding digits
     digits-more n e p = rw (here h, e, le-leb (n * 10 + (getD l at 0 - 48)) 65535 p)
 
-    pub mark-other : (x : Update) → (getD l at 0 ≡ 45 → ⊥) → markWith x (drop at l) ≡ none
+    pub mark-other : (f : Form) (x : Update) → (getD l at 0 ≡ 45 → ⊥) → markWith f x (drop at l) ≡ none
     unfolding markWith
-    mark-other x e = rw (behind-other 45 e)
+    mark-other f x e = rw (behind-other 45 e)
 
-    pub mark-dash : (x : Update) → getD l at 0 ≡ 45 → markWith x (drop at l) ≡ whole x (drop (at + 1) l)
+    pub mark-dash : (f : Form) (x : Update) → getD l at 0 ≡ 45 → markWith f x (drop at l) ≡ (noKey f (drop (at + 1) l) andThen whole x)
     unfolding markWith
-    mark-dash x e = rw (behind-same 45 e)
+    mark-dash f x e = rw (behind-same 45 e)
 
 pub digit-bounds : (b : ℕ) → isDigit b ≡ true → (48 ≤ b) × (b ≤ 57)
 digit-bounds b = by (leb 48 b) refl
@@ -141,12 +142,12 @@ module _ (l : List ℕ) where
   a-rest e p = sym e ∙ ap (rest l) p
 
 -- the line from its first byte on
-pub no-line : (l : List ℕ) → length l ≡ 0 → lineOf l ≡ none
+pub no-line : (f : Form) (l : List ℕ) → length l ≡ 0 → lineOf f l ≡ none
 unfolding lineOf fields
-no-line [] e = refl
-no-line (k ∷ l) e = absurd (omega arith)
+no-line f [] e = refl
+no-line f (k ∷ l) e = absurd (omega arith)
 
-pub from-kind : (l : List ℕ) → (length l ≡ 0 → ⊥) → length l ≤ 16 → lineOf l ≡ (behind 32 (drop 1 l) andThen value andThen λ from. behind 32 (from .rest) andThen update (getD l 0 0) (from .number))
+pub from-kind : (f : Form) (l : List ℕ) → (length l ≡ 0 → ⊥) → length l ≤ 16 → lineOf f l ≡ (behind 32 (drop 1 l) andThen value andThen λ from. behind 32 (from .rest) andThen update f (getD l 0 0) (from .number))
 unfolding lineOf fields
-from-kind [] n h = absurd (n refl)
-from-kind (k ∷ l) n h = rw (le-leb (length (k ∷ l)) 16 h)
+from-kind f [] n h = absurd (n refl)
+from-kind f (k ∷ l) n h = rw (le-leb (length (k ∷ l)) 16 h)

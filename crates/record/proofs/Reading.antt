@@ -13,10 +13,12 @@ use lib.ListN.{length, length-append}
 use borrow.Author.Tests.{ne-eqb, le-leb, eqb-true, eqb-false, leb-true}
 use Rattle.gid.specs.declared.Update.{Update}
 use Rattle.gid.specs.declared.Update.the-variants.{Step, Terminal, Close}
-use Rattle.gid.specs.Updates.{edge}
-use Rattle.record.specs.Text.{decimal, head, last, text, maxValue, Within}
-use Rattle.record.specs.Grammar.{Front, isDigit, digits, value, behind, whole, step, markWith, update, fields, lineOf, _andThen_}
-use Rattle.record.proofs.Decimals.{decimal-digit, decimal-more, decimal-then, five-digits}
+use Rattle.gid.specs.Updates.{edge, values}
+use Rattle.record.specs.declared.line.Form.{Form}
+use Rattle.record.specs.declared.line.Form.the-variants.{Plain, Keyed}
+use Rattle.record.specs.Text.{decimal, keyed, head, field, text, maxValue, KeyWithin, Within}
+use Rattle.record.specs.Grammar.{Front, isDigit, digits, value, behind, whole, keyOf, step, noKey, markWith, update, fields, lineOf, _andThen_}
+use Rattle.record.proofs.Decimals.{decimal-digit, decimal-more, decimal-then, two-digits, five-digits}
 use Rattle.record.proofs.Indexed.{is-digit, digit-bounds}
 
 none-some : {A : Type 0} (a : A) → none ≡ some a → ⊥
@@ -65,32 +67,74 @@ pub value-back : (n : ℕ) → n ≤ maxValue → (t : List ℕ) → NoDigit t �
 value-back zero q t e = rw (decimal-digit zero (omega arith)) (value-zero t)
 value-back (suc n) q t e = value-digits (suc n) (suc n) (omega arith) (omega arith) q t ∙ digits-stop (suc n) t e
 
-fields-head : (kind from : ℕ) → from ≤ maxValue → (t : List ℕ) → fields (head kind from ++ t) ≡ update kind from t
+-- the same at the end of a line
+value-last : (n : ℕ) → n ≤ maxValue → value (decimal n) ≡ some (record { number = n; rest = [] })
+value-last n h = subst (λ (l : List ℕ). value l ≡ some (record { number = n; rest = [] })) (append-nil (decimal n)) (value-back n h [] tt)
+
+fields-head : (f : Form) (kind from : ℕ) → from ≤ maxValue → (t : List ℕ) → fields f (head kind from ++ t) ≡ update f kind from t
 unfolding fields behind
-fields-head kind from h t = rw (append-assoc (decimal from) (32 ∷ []) t, value-back from h (32 ∷ t) refl)
+fields-head f kind from h t = rw (append-assoc (decimal from) (32 ∷ []) t, value-back from h (32 ∷ t) refl)
 
-step-text : (from to : ℕ) → to ≤ maxValue → step from (decimal to) ≡ some (Step (edge from to))
+key-text : (f : Form) (k : ℕ) → KeyWithin f k → keyOf f (keyed f (decimal k)) ≡ some (record { number = k; rest = [] })
+unfolding keyOf behind
+key-text Plain k h = rw h refl
+key-text Keyed k h = value-last k h
+
+no-digit : (f : Form) (key : List ℕ) → NoDigit (keyed f key)
+no-digit Plain key = tt
+no-digit Keyed key = refl
+
+step-text : (f : Form) (from to k : ℕ) → to ≤ maxValue → KeyWithin f k → step f from (decimal to ++ keyed f (decimal k)) ≡ some (Step (edge from to k))
 unfolding step
-step-text from to h =
-    rw (subst (λ (l : List ℕ). value l ≡ some (record { number = to; rest = [] })) (append-nil (decimal to)) (value-back to h [] tt))
+step-text f from to k h p = rw (value-back to h (keyed f (decimal k)) (no-digit f (decimal k)), key-text f k p)
 
-fields-text : (x : Update) → Within x → fields (text x) ≡ some x
-unfolding update markWith behind
-fields-text (Step e) h = fields-head 69 (e .from) (h .0) (decimal (e .to)) ∙ step-text (e .from) (e .to) (h .1)
-fields-text (Terminal u) h = fields-head 84 u h (45 ∷ [])
-fields-text (Close u) h = fields-head 67 u h (45 ∷ [])
+mark-text : (f : Form) (x : Update) → markWith f x (45 ∷ keyed f (45 ∷ [])) ≡ some x
+unfolding markWith noKey behind
+mark-text Plain x = refl
+mark-text Keyed x = refl
 
--- A line has at most 13 bytes.
-pub text-length : (x : Update) → Within x → length (text x) ≤ 13
-text-length (Step e) h =
-    omega (arith, length-append (head 69 (e .from)) (decimal (e .to)), length-append (decimal (e .from)) (32 ∷ []), five-digits (e .from) (omega (arith, h .0)), five-digits (e .to) (omega (arith, h .1)))
-text-length (Terminal u) h = omega (arith, length-append (head 84 u) (45 ∷ []), length-append (decimal u) (32 ∷ []), five-digits u (omega arith))
-text-length (Close u) h = omega (arith, length-append (head 67 u) (45 ∷ []), length-append (decimal u) (32 ∷ []), five-digits u (omega arith))
+fields-text : (f : Form) (x : Update) → Within f x → fields f (text f x) ≡ some x
+unfolding update
+fields-text f (Step e) h =
+    let last = keyed f (decimal (e .key)) in
+    rw (append-assoc (head 69 (e .from)) (decimal (e .to)) last)
+    (fields-head f 69 (e .from) (h .0) (decimal (e .to) ++ last) ∙ step-text f (e .from) (e .to) (e .key) (h .1) (h .2))
+fields-text f (Terminal u) h =
+    let last = keyed f (45 ∷ []) in
+    rw (append-assoc (head 84 u) (45 ∷ []) last) (fields-head f 84 u h (45 ∷ last) ∙ mark-text f (Terminal u))
+fields-text f (Close u) h =
+    let last = keyed f (45 ∷ []) in
+    rw (append-assoc (head 67 u) (45 ∷ []) last) (fields-head f 67 u h (45 ∷ last) ∙ mark-text f (Close u))
 
--- The round trip: a written line is read as the update that it was written from.
-pub line-back : (x : Update) → Within x → lineOf (text x) ≡ some x
+-- A line has at most 13 bytes, and those of its key.
+pub text-length : (f : Form) (x : Update) → Within f x → length (text f x) ≤ 13 + length (keyed f (field (values x .key)))
+text-length f (Step e) h =
+    let last = keyed f (decimal (e .key)) in
+    omega (arith, length-append (head 69 (e .from) ++ decimal (e .to)) last, length-append (head 69 (e .from)) (decimal (e .to)), length-append (decimal (e .from)) (32 ∷ []), five-digits (e .from) (omega (arith, h .0)), five-digits (e .to) (omega (arith, h .1)))
+text-length f (Terminal u) h =
+    let last = keyed f (45 ∷ []) in
+    omega (arith, length-append (head 84 u ++ (45 ∷ [])) last, length-append (head 84 u) (45 ∷ []), length-append (decimal u) (32 ∷ []), five-digits u (omega arith))
+text-length f (Close u) h =
+    let last = keyed f (45 ∷ []) in
+    omega (arith, length-append (head 67 u ++ (45 ∷ [])) last, length-append (head 67 u) (45 ∷ []), length-append (decimal u) (32 ∷ []), five-digits u (omega arith))
+
+-- A plain line is never too long, and a keyed one is not where its key has at most two digits.
+abbrev pub Short : Form → Update → Type 0
+Short Plain x = Unit {0}
+Short Keyed (Step e) = e .key < 100
+Short Keyed (Terminal u) = Unit {0}
+Short Keyed (Close u) = Unit {0}
+
+pub text-short : (f : Form) (x : Update) → Within f x → Short f x → length (text f x) ≤ 16
+text-short Plain x h p = omega (arith, text-length Plain x h)
+text-short Keyed (Step e) h p = omega (arith, text-length Keyed (Step e) h, two-digits (e .key) p)
+text-short Keyed (Terminal u) h p = omega (arith, text-length Keyed (Terminal u) h)
+text-short Keyed (Close u) h p = omega (arith, text-length Keyed (Close u) h)
+
+-- The round trip: a written line is read as the update that it was written from, where it is not too long.
+pub line-back : (f : Form) (x : Update) → Within f x → length (text f x) ≤ 16 → lineOf f (text f x) ≡ some x
 unfolding lineOf
-line-back x h = rw (le-leb (length (text x)) 16 (omega (arith, text-length x h))) (fields-text x h)
+line-back f x h p = rw (le-leb (length (text f x)) 16 p) (fields-text f x h)
 
 -- what a step of the grammar took
 taken : {A B : Type 0} (o : Option A) (f : A → Option B) (b : B) → o andThen f ≡ some b → (a : A) × (o ≡ some a) × (f a ≡ some b)
@@ -163,45 +207,71 @@ whole-taken : (y x : Update) (l : List ℕ) → whole y l ≡ some x → (l ≡ 
 whole-taken y x [] e = (refl, cc)
 whole-taken y x (b ∷ l) e = absurd (none-some x e)
 
--- what was read as an update of a kind has its last value's text, and its values are within bounds
-Read : ℕ → ℕ → List ℕ → Update → Type 0
-Read kind from to x = (head kind from ++ to ≡ text x) × Within x
+-- what was read behind `to` is the text of a key,
+key-taken : (f : Form) (l : List ℕ) (k : Front) → keyOf f l ≡ some k → (l ≡ keyed f (decimal (k .number)) ++ k .rest) × KeyWithin f (k .number)
+unfolding keyOf Taken
+key-taken Plain l k e =
+    let g : record { number = 0; rest = l } ≡ k = cc in
+    subst (λ (k : Front). (l ≡ k .rest) × (k .number ≡ 0)) g (refl, refl)
+key-taken Keyed l k e =
+    let t = taken (behind 32 l) value k e in
+    let v = value-taken (t .0) k (t .2) in
+    (behind-taken 32 l (t .0) (t .1) ∙ ap (λ (r : List ℕ). 32 ∷ r) (v .0), v .1)
 
-step-taken : (u : ℕ) (l : List ℕ) (x : Update) → u ≤ maxValue → step u l ≡ some x → Read 69 u l x
+-- or of none
+no-key-taken : (f : Form) (l r : List ℕ) → noKey f l ≡ some r → l ≡ keyed f (45 ∷ []) ++ r
+unfolding noKey
+no-key-taken Plain l r e = cc
+no-key-taken Keyed l r e =
+    let t = taken (behind 32 l) (behind 45) r e in
+    behind-taken 32 l (t .0) (t .1) ∙ ap (λ (r : List ℕ). 32 ∷ r) (behind-taken 45 (t .0) r (t .2))
+
+-- what was read as an update of a kind has the text of its last values, and its values are within bounds
+Read : Form → ℕ → ℕ → List ℕ → Update → Type 0
+Read f kind from l x = (head kind from ++ l ≡ text f x) × Within f x
+
+step-taken : (f : Form) (u : ℕ) (l : List ℕ) (x : Update) → u ≤ maxValue → step f u l ≡ some x → Read f 69 u l x
 unfolding step Taken Read
-step-taken u l x h e =
-    let t = taken (value l) (λ to. whole (Step (edge u (to .number))) (to .rest)) x e in
+step-taken f u l x h e =
+    let t = taken (value l) (λ to. keyOf f (to .rest) andThen λ key. whole (Step (edge u (to .number) (key .number))) (key .rest)) x e in
     let v = value-taken l (t .0) (t .1) in
-    let w = whole-taken (Step (edge u (t .0 .number))) x (t .0 .rest) (t .2) in
-    subst (λ (x : Update). (head 69 u ++ l ≡ text x) × Within x) (w .1)
-    (ap (λ (l : List ℕ). head 69 u ++ l) (v .0 ∙ ap (λ (r : List ℕ). decimal (t .0 .number) ++ r) (w .0) ∙ append-nil (decimal (t .0 .number))), (h, v .1))
+    let s = taken (keyOf f (t .0 .rest)) (λ key. whole (Step (edge u (t .0 .number) (key .number))) (key .rest)) x (t .2) in
+    let k = key-taken f (t .0 .rest) (s .0) (s .1) in
+    let w = whole-taken (Step (edge u (t .0 .number) (s .0 .number))) x (s .0 .rest) (s .2) in
+    let to = decimal (t .0 .number) in
+    let last = keyed f (decimal (s .0 .number)) in
+    let r : t .0 .rest ≡ last = k .0 ∙ ap (λ (r : List ℕ). last ++ r) (w .0) ∙ append-nil last in
+    subst (λ (x : Update). (head 69 u ++ l ≡ text f x) × Within f x) (w .1)
+    (ap (λ (l : List ℕ). head 69 u ++ l) (v .0 ∙ ap (λ (r : List ℕ). to ++ r) r) ∙ sym (append-assoc (head 69 u) to last), (h, v .1, k .1))
 
-mark-taken : (y x : Update) (l : List ℕ) → markWith y l ≡ some x → (l ≡ 45 ∷ []) × (y ≡ x)
+mark-taken : (f : Form) (y x : Update) (l : List ℕ) → markWith f y l ≡ some x → (l ≡ 45 ∷ keyed f (45 ∷ [])) × (y ≡ x)
 unfolding markWith
-mark-taken y x l e =
-    let t = taken (behind 45 l) (whole y) x e in
+mark-taken f y x l e =
+    let t = taken (behind 45 l andThen noKey f) (whole y) x e in
+    let s = taken (behind 45 l) (noKey f) (t .0) (t .1) in
     let w = whole-taken y x (t .0) (t .2) in
-    (behind-taken 45 l (t .0) (t .1) ∙ ap (λ (r : List ℕ). 45 ∷ r) (w .0), w .1)
+    let last = keyed f (45 ∷ []) in
+    (behind-taken 45 l (s .0) (s .1) ∙ ap (λ (r : List ℕ). 45 ∷ r) (no-key-taken f (s .0) (t .0) (s .2) ∙ ap (λ (r : List ℕ). last ++ r) (w .0) ∙ append-nil last), w .1)
 
-update-taken : (k u : ℕ) (l : List ℕ) (x : Update) → u ≤ maxValue → update k u l ≡ some x → Read k u l x
+update-taken : (f : Form) (k u : ℕ) (l : List ℕ) (x : Update) → u ≤ maxValue → update f k u l ≡ some x → Read f k u l x
 unfolding update Read
-update-taken k u l x h e = isStep (eqb k 69) refl e
+update-taken f k u l x h e = isStep (eqb k 69) refl e
   where
-    marked : (y : Update) → (head k u ++ (45 ∷ []) ≡ text y) × Within y → markWith y l ≡ some x → Read k u l x
+    marked : (y : Update) → (head k u ++ (45 ∷ []) ++ keyed f (45 ∷ []) ≡ text f y) × Within f y → markWith f y l ≡ some x → Read f k u l x
     marked y t z =
-        let m = mark-taken y x l z in
-        subst (λ (x : Update). (head k u ++ l ≡ text x) × Within x) (m .1) (rw (m .0) (t .0), t .1)
+        let m = mark-taken f y x l z in
+        subst (λ (x : Update). (head k u ++ l ≡ text f x) × Within f x) (m .1) (rw (m .0) (sym (append-assoc (head k u) (45 ∷ []) (keyed f (45 ∷ []))) ∙ t .0), t .1)
 
-    isClose : (t : Bool) → eqb k 67 ≡ t → cond t (markWith (Close u) l) none ≡ some x → Read k u l x
+    isClose : (t : Bool) → eqb k 67 ≡ t → cond t (markWith f (Close u) l) none ≡ some x → Read f k u l x
     isClose true p z = marked (Close u) (rw (eqb-true k 67 p) refl, h) z
     isClose false p z = absurd (none-some x z)
 
-    isTerminal : (t : Bool) → eqb k 84 ≡ t → cond t (markWith (Terminal u) l) (cond (eqb k 67) (markWith (Close u) l) none) ≡ some x → Read k u l x
+    isTerminal : (t : Bool) → eqb k 84 ≡ t → cond t (markWith f (Terminal u) l) (cond (eqb k 67) (markWith f (Close u) l) none) ≡ some x → Read f k u l x
     isTerminal true p z = marked (Terminal u) (rw (eqb-true k 84 p) refl, h) z
     isTerminal false p z = isClose (eqb k 67) refl z
 
-    isStep : (t : Bool) → eqb k 69 ≡ t → cond t (step u l) (cond (eqb k 84) (markWith (Terminal u) l) (cond (eqb k 67) (markWith (Close u) l) none)) ≡ some x → Read k u l x
-    isStep true p z = rw (eqb-true k 69 p) (step-taken u l x h z)
+    isStep : (t : Bool) → eqb k 69 ≡ t → cond t (step f u l) (cond (eqb k 84) (markWith f (Terminal u) l) (cond (eqb k 67) (markWith f (Close u) l) none)) ≡ some x → Read f k u l x
+    isStep true p z = rw (eqb-true k 69 p) (step-taken f u l x h z)
     isStep false p z = isTerminal (eqb k 84) refl z
 
 joined : (kind n : ℕ) {l s r to : List ℕ} → l ≡ 32 ∷ s → s ≡ decimal n ++ r → r ≡ 32 ∷ to → kind ∷ l ≡ head kind n ++ to
@@ -209,26 +279,28 @@ joined kind n {l} {s} {r} {to} p q z =
     rw (append-assoc (decimal n) (32 ∷ []) to)
     (ap (λ (m : List ℕ). kind ∷ m) (p ∙ ap (λ (m : List ℕ). 32 ∷ m) (q ∙ ap (λ (m : List ℕ). decimal n ++ m) z)))
 
-fields-taken : (l : List ℕ) (x : Update) → fields l ≡ some x → (l ≡ text x) × Within x
+fields-taken : (f : Form) (l : List ℕ) (x : Update) → fields f l ≡ some x → (l ≡ text f x) × Within f x
 unfolding fields Taken Read
-fields-taken [] x e = absurd (none-some x e)
-fields-taken (kind ∷ l) x e =
-    let t = taken (behind 32 l andThen value) (λ from. behind 32 (from .rest) andThen update kind (from .number)) x e in
+fields-taken f [] x e = absurd (none-some x e)
+fields-taken f (kind ∷ l) x e =
+    let t = taken (behind 32 l andThen value) (λ from. behind 32 (from .rest) andThen update f kind (from .number)) x e in
     let s = taken (behind 32 l) value (t .0) (t .1) in
     let v = value-taken (s .0) (t .0) (s .2) in
-    let r = taken (behind 32 (t .0 .rest)) (update kind (t .0 .number)) x (t .2) in
-    let u = update-taken kind (t .0 .number) (r .0) x (v .1) (r .2) in
+    let r = taken (behind 32 (t .0 .rest)) (update f kind (t .0 .number)) x (t .2) in
+    let u = update-taken f kind (t .0 .number) (r .0) x (v .1) (r .2) in
     (joined kind (t .0 .number) (behind-taken 32 l (s .0) (s .1)) (v .0) (behind-taken 32 (t .0 .rest) (r .0) (r .1)) ∙ u .0, u .1)
 
 -- What is read as an update is its text.
-pub line-only : (l : List ℕ) (x : Update) → lineOf l ≡ some x → (l ≡ text x) × Within x
+pub line-only : (f : Form) (l : List ℕ) (x : Update) → lineOf f l ≡ some x → (l ≡ text f x) × Within f x × (length l ≤ 16)
 unfolding lineOf
-line-only l x e = by (leb (length l) 16) e
+line-only f l x e = by (leb (length l) 16) refl e
   where
-    by : (t : Bool) → cond t (fields l) none ≡ some x → (l ≡ text x) × Within x
-    by true z = fields-taken l x z
-    by false z = absurd (none-some x z)
+    by : (t : Bool) → leb (length l) 16 ≡ t → cond t (fields f l) none ≡ some x → (l ≡ text f x) × Within f x × (length l ≤ 16)
+    by true p z =
+        let r = fields-taken f l x z in
+        (r .0, r .1, leb-true (length l) 16 p)
+    by false p z = absurd (none-some x z)
 
--- The grammar and the text are one: a line is an update exactly where it is the update's text, with values within bounds.
-pub line-text : (l : List ℕ) (x : Update) → (lineOf l ≡ some x) ↔ ((l ≡ text x) × Within x)
-line-text l x = (line-only l x, λ h. rw (h .0) (line-back x (h .1)))
+-- The grammar and the text are one: a line is an update exactly where it is the update's text, with values within bounds and at most 16 bytes.
+pub line-text : (f : Form) (l : List ℕ) (x : Update) → (lineOf f l ≡ some x) ↔ ((l ≡ text f x) × Within f x × (length l ≤ 16))
+line-text f l x = (line-only f l x, λ h. rw (h .0) (line-back f x (h .1) (rw (h .0) at (h .2))))

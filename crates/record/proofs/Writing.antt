@@ -7,7 +7,11 @@ use native.Mathlib.Omega.{arith}
 use native.Mathlib.Numerals.{add-one}
 use lib.ListN.{length, getD, take, drop, set, length-append, length-drop, drop-of-length-le}
 use lib.Seq.{take-suc, drop-cons, set-at, take-at, drop-at, take-all, drop-drop, length-take-le}
-use Rattle.record.specs.Text.{decimal, head, Wrote, WroteAt}
+use mathlib.Core.Option.{none}
+use Rattle.gid.specs.declared.Edge.{Edge}
+use Rattle.gid.specs.declared.Update.the-variants.{Step}
+use Rattle.record.specs.declared.line.Form.the-variants.{Keyed}
+use Rattle.record.specs.Text.{decimal, keyed, head, field, text, Wrote, WroteAt}
 use Rattle.record.proofs.Decimals.{decimal-digit, decimal-more}
 
 pub wrote-byte : (b : ℕ) (d : List ℕ) → 0 < length d → Wrote (b ∷ []) d (set d 0 b) 1
@@ -89,3 +93,34 @@ wrote-head kind from d e r h a =
     let k = head-length kind from in
     let w : Wrote (kind ∷ 32 ∷ []) d (set (set d 0 kind) 1 32) 2 = wrote-then (kind ∷ []) d (set d 0 kind) 1 32 (wrote-byte kind d (omega arith)) (omega arith) in
     wrote-then (kind ∷ 32 ∷ decimal from) d e r 32 (wrote-at (kind ∷ 32 ∷ []) (decimal from) d (set (set d 0 kind) 1 32) e 2 r w a (omega arith)) (omega arith)
+
+-- a line of the keyed form, behind its head
+pub step-length : (e : Edge) → length (text Keyed (Step e)) ≡ length (decimal (e .from)) + length (decimal (e .to)) + length (decimal (e .key)) + 4
+step-length e =
+    let h = head 69 (e .from) in
+    let to = decimal (e .to) in
+    omega (arith, head-length 69 (e .from), length-append h to, length-append (h ++ to) (32 ∷ decimal (e .key)))
+
+pub wrote-step : (e : Edge) (d a b c : List ℕ) (r g q : ℕ) → length (text Keyed (Step e)) < length d → Wrote (head 69 (e .from)) d a r → WroteAt r (decimal (e .to)) a b g → WroteAt (g + 1) (decimal (e .key)) (set b g 32) c q → Wrote (text Keyed (Step e) ++ (10 ∷ [])) d (set c q 10) (q + 1)
+wrote-step e d a b c r g q h u v w =
+    let k = step-length e in
+    let key = decimal (e .key) in
+    let t = head 69 (e .from) ++ decimal (e .to) in
+    let m = length-append (head 69 (e .from)) (decimal (e .to)) in
+    let l = head-length 69 (e .from) in
+    let n = length-append t (32 ∷ []) in
+    let spaced : Wrote (t ++ (32 ∷ [])) d (set b g 32) (g + 1) = wrote-then t d b g 32 (wrote-at (head 69 (e .from)) (decimal (e .to)) d a b r g u v (omega arith)) (omega arith) in
+    wrote-then (text Keyed (Step e)) d c q 10 (rw (← append-assoc t (32 ∷ []) key) (wrote-at (t ++ (32 ∷ [])) key d (set b g 32) c (g + 1) q spaced w (omega arith))) h
+
+pub mark-length : (kind state : ℕ) → length (head kind state ++ field none ++ keyed Keyed (field none)) ≡ length (decimal state) + 6
+mark-length kind state =
+    let h = head kind state in
+    omega (arith, head-length kind state, length-append h (45 ∷ []), length-append (h ++ (45 ∷ [])) (32 ∷ 45 ∷ []))
+
+pub wrote-mark : (kind state : ℕ) (d a b : List ℕ) (r g : ℕ) → length (head kind state ++ field none ++ keyed Keyed (field none)) < length d → Wrote (head kind state) d a r → WroteAt r (45 ∷ 32 ∷ 45 ∷ 10 ∷ []) a b g → Wrote (head kind state ++ field none ++ keyed Keyed (field none) ++ (10 ∷ [])) d b g
+wrote-mark kind state d a b r g h u v =
+    let t = head kind state in
+    let l = head-length kind state in
+    let m = mark-length kind state in
+    rw (append-assoc (t ++ (45 ∷ [])) (32 ∷ 45 ∷ []) (10 ∷ []), append-assoc t (45 ∷ []) (32 ∷ 45 ∷ 10 ∷ []))
+    (wrote-at t (45 ∷ 32 ∷ 45 ∷ 10 ∷ []) d a b r g u v (omega arith))

@@ -7,6 +7,7 @@ use Prim.Native.Nat.{ℕ, _+_}
 use lib.Dec.{leb}
 use lib.ListN.{length, take, drop, set, replicate}
 use Rattle.gid.specs.declared.Update.{Update}
+use Rattle.record.specs.declared.line.Form.{Form}
 use Rattle.record.specs.declared.line.Line.{Line}
 use Rattle.record.specs.declared.line.Filled.{Filled}
 use Rattle.record.specs.Text.{names}
@@ -34,10 +35,10 @@ filledFrom l s at = record { line = withBytes l (before (drop at s)); next = at 
 abbrev pub ofBytes : {A : Type 0} → (List ℕ → A) → A → Line → A
 ofBytes f other l = cond (leb (l .len) 16) (f (take (l .len) (l .bytes))) other
 
--- What the line is.
-abbrev pub lineIn : Line → Option Update
-lineIn = ofBytes lineOf none
+-- What the line is, in a record of a form.
+abbrev pub lineIn : Form → Line → Option Update
+lineIn f = ofBytes (lineOf f) none
 
--- Whether it is the names line.
-abbrev pub isNamesIn : Line → Bool
-isNamesIn = ofBytes (λ l. same l names) false
+-- Whether it is the names line of a form.
+abbrev pub isNamesIn : Form → Line → Bool
+isNamesIn f = ofBytes (λ l. same l (names f)) false

@@ -1,4 +1,4 @@
--- What the bytes of a line are: an update, or none, where the line is malformed. Document 01, "The record". proofs/Reading.antt proves that these are the texts of updates and nothing else.
+-- What the bytes of a line are: an update, or none, where the line is malformed. Document 01, "The record"; document 02, #101. proofs/Reading.antt proves that these are the texts of updates and nothing else.
 -- Assumes nothing.
 use mathlib.Core.Bool.{Bool, cond, _&&_}
 use mathlib.Core.List.{List, [], _∷_}
@@ -9,6 +9,8 @@ use lib.ListN.{length}
 use Rattle.gid.specs.declared.Update.{Update}
 use Rattle.gid.specs.declared.Update.the-variants.{Step, Terminal, Close}
 use Rattle.gid.specs.Updates.{edge}
+use Rattle.record.specs.declared.line.Form.{Form}
+use Rattle.record.specs.declared.line.Form.the-variants.{Plain, Keyed}
 use Rattle.record.specs.Text.{maxValue}
 
 -- What was read at the front of some bytes, and the bytes behind it.
@@ -48,24 +50,34 @@ abbrev pub whole : Update → List ℕ → Option Update
 whole x [] = some x
 whole x (b ∷ l) = none
 
+-- A step's key, behind `to`: a space and a value. "A record with the old names line gives every step key 0".
+unfoldable pub keyOf : Form → List ℕ → Option Front
+keyOf Plain l = some (record { number = 0; rest = l })
+keyOf Keyed l = behind 32 l andThen value
+
 -- "`E 3 4` a step": `to` is a value.
-unfoldable pub step : ℕ → List ℕ → Option Update
-step from l = value l andThen λ to. whole (Step (edge from (to .number))) (to .rest)
+unfoldable pub step : Form → ℕ → List ℕ → Option Update
+step f from l = value l andThen λ to. keyOf f (to .rest) andThen λ key. whole (Step (edge from (to .number) (key .number))) (key .rest)
+
+-- The key of a terminal mark or a close, behind `to`: a space and a dash. "T and C lines have `-` there."
+unfoldable pub noKey : Form → List ℕ → Option (List ℕ)
+noKey Plain l = some l
+noKey Keyed l = behind 32 l andThen behind 45
 
 -- "`T 3 -` a terminal mark, `C 3 -` a close": "`to` is `-` exactly for T and C."
-unfoldable pub markWith : Update → List ℕ → Option Update
-markWith x l = behind 45 l andThen whole x
+unfoldable pub markWith : Form → Update → List ℕ → Option Update
+markWith f x l = behind 45 l andThen noKey f andThen whole x
 
--- By the kind, E, T or C: the update from a value, with the bytes of `to`.
-unfoldable pub update : ℕ → ℕ → List ℕ → Option Update
-update kind from to =
-    cond (eqb kind 69) (step from to) (cond (eqb kind 84) (markWith (Terminal from) to) (cond (eqb kind 67) (markWith (Close from) to) none))
+-- By the kind, E, T or C: the update from a value, with the bytes from `to` on.
+unfoldable pub update : Form → ℕ → ℕ → List ℕ → Option Update
+update f kind from l =
+    cond (eqb kind 69) (step f from l) (cond (eqb kind 84) (markWith f (Terminal from) l) (cond (eqb kind 67) (markWith f (Close from) l) none))
 
--- The kind, a space, a value, a space, and `to`: "one space between".
-unfoldable pub fields : List ℕ → Option Update
-fields [] = none
-fields (kind ∷ l) = behind 32 l andThen value andThen λ from. behind 32 (from .rest) andThen update kind (from .number)
+-- The kind, a space, a value, a space, and the rest: "one space between".
+unfoldable pub fields : Form → List ℕ → Option Update
+fields f [] = none
+fields f (kind ∷ l) = behind 32 l andThen value andThen λ from. behind 32 (from .rest) andThen update f kind (from .number)
 
 -- "A line of more than 16 bytes, a blank line or a carriage return is malformed."
-unfoldable pub lineOf : List ℕ → Option Update
-lineOf l = cond (leb (length l) 16) (fields l) none
+unfoldable pub lineOf : Form → List ℕ → Option Update
+lineOf f l = cond (leb (length l) 16) (fields f l) none

@@ -1,4 +1,4 @@
--- What each line of a record is. Document 01, "The record" and the numbers 10, 11 and 12.
+-- What each line of a record is. Document 01, "The record" and the numbers 10, 11 and 12; document 02, #101.
 -- Assumes nothing.
 use mathlib.Core.Bool.{Bool, true, false, cond, _&&_}
 use mathlib.Core.List.{List, [], _∷_}
@@ -6,6 +6,8 @@ use mathlib.Core.Option.{Option, some, none}
 use Prim.Native.Nat.{ℕ, _+_}
 use lib.Dec.{leb, eqb}
 use Rattle.gid.specs.declared.Update.{Update}
+use Rattle.record.specs.declared.line.Form.{Form}
+use Rattle.record.specs.declared.line.Form.the-variants.{Plain, Keyed}
 use Rattle.record.specs.declared.splitter.Item.{Item}
 use Rattle.record.specs.declared.splitter.Item.the-variants.{Nothing, Update as Read, Malformed, BadNames, TooMany}
 use Rattle.record.specs.Text.{names}
@@ -28,15 +30,15 @@ lineItem n (some x) = Read (record { line = n; update = x })
 abbrev pub maxLines : ℕ
 maxLines = 65535
 
--- The lines from number n on, behind the names line. "12: line 65,536 exists, malformed or not (tested before 11). Reading stops there." "11: .. It is skipped and reading goes on."
-unfoldable pub further : ℕ → List (List ℕ) → List Item
-further n [] = []
-further n (l ∷ ls) = cond (leb n maxLines) (lineItem n (lineOf l) ∷ further (n + 1) ls) (TooMany ∷ [])
+-- The lines from number n on, behind the names line, which gives the form. "12: line 65,536 exists, malformed or not (tested before 11). Reading stops there." "11: .. It is skipped and reading goes on."
+unfoldable pub further : Form → ℕ → List (List ℕ) → List Item
+further f n [] = []
+further f n (l ∷ ls) = cond (leb n maxLines) (lineItem n (lineOf f l) ∷ further f (n + 1) ls) (TooMany ∷ [])
 
--- "10: the names line is not exact. Reading stops." "Empty input lacks its names line."
+-- "A record may begin with `kind from to key`", or has "the old names line". "10: the names line is not exact. Reading stops." "Empty input lacks its names line."
 unfoldable pub all : List (List ℕ) → List Item
 all [] = BadNames ∷ []
-all (l ∷ ls) = cond (same l names) (further 2 ls) (BadNames ∷ [])
+all (l ∷ ls) = cond (same l (names Plain)) (further Plain 2 ls) (cond (same l (names Keyed)) (further Keyed 2 ls) (BadNames ∷ []))
 
 -- What a record's lines are, in order.
 unfoldable pub items : List ℕ → List Item

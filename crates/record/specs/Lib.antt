@@ -1,4 +1,4 @@
--- What a record is. This is what a reader believes, in document 01's words:
+-- What a record is. This is what a reader believes, in the words of documents 01 and 02:
 pub mod Text
 pub mod Grammar
 pub mod Lines

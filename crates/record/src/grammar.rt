@@ -1,10 +1,12 @@
-// The grammar of a line: "`E 3 4` a step, `T 3 -` a terminal mark, `C 3 -` a close". Every other byte is malformed.
+// The grammar of a line: "`E 3 4` a step, `T 3 -` a terminal mark, `C 3 -` a close", and with keys `E 3 4 7`, `T 3 - -`, `C 3 - -`. Every other byte is malformed.
 ghost use mathlib.Core.Path.{_≡_};
 ghost use Prim.Native.Nat.{ℕ, _≤_, _<_};
 ghost use lib.ListN.{length, drop};
-ghost use Rattle.record.specs.Grammar.{digits, value, behind, step, markWith, lineOf};
+ghost use Rattle.record.specs.declared.line.Form.the-variants.{Keyed};
+ghost use Rattle.record.specs.Grammar.{digits, value, behind, keyOf, step, noKey, markWith, lineOf};
 ghost use Rattle.record.specs.Buffer.{lineIn};
 ghost use Rattle.record.specs.Parsing.{parsed, digitOf, front, rest};
+use crate::line::Form;
 use crate::line::Line;
 use gid::Edge;
 use gid::Update;
@@ -37,22 +39,22 @@ enum After {
 }
 
 impl Line {
-    // What the line is.
-    pub fn parse(self) -> Parsed
-        ensures { λ r. ⌜ r ≡ parsed (lineIn self) ⌝ }
+    // What the line is, in a record of a form.
+    pub fn parse(self, form: Form) -> Parsed
+        ensures { λ r. ⌜ r ≡ parsed (lineIn form self) ⌝ }
     {
         let len = self.len;
         if 16 < len {
             return Parsed::Malformed;
         }
         let bytes = self.bytes;
-        parse_bytes(&bytes[..len])
+        parse_bytes(&bytes[..len], form)
     }
 }
 
-fn parse_bytes(s: &[u8]) -> Parsed
+fn parse_bytes(s: &[u8], form: Form) -> Parsed
     requires { ⌜ length (now s) ≤ 16 ⌝ }
-    ensures { λ r. ⌜ r ≡ parsed (lineOf (now (s .entry))) ⌝ }
+    ensures { λ r. ⌜ r ≡ parsed (lineOf form (now (s .entry))) ⌝ }
 {
     if s.len() == 0 {
         return Parsed::Malformed;
@@ -68,31 +70,64 @@ fn parse_bytes(s: &[u8]) -> Parsed
         return Parsed::Malformed;
     };
     match kind {
-        b'E' => parse_step(s, to, number),
-        b'T' => parse_mark(s, to, Update::Terminal { state: number }),
-        b'C' => parse_mark(s, to, Update::Close { state: number }),
+        b'E' => parse_step(s, to, number, form),
+        b'T' => parse_mark(s, to, Update::Terminal { state: number }, form),
+        b'C' => parse_mark(s, to, Update::Close { state: number }, form),
         _ => Parsed::Malformed,
     }
 }
 
-// A step's `to`: a value up to the line's end.
-fn parse_step(s: &[u8], at: usize, from: usize) -> Parsed
-    ensures { λ r. ⌜ r ≡ parsed (step from (drop at (now (s .entry)))) ⌝ }
+// A step's `to` and key, up to the line's end.
+fn parse_step(s: &[u8], at: usize, from: usize, form: Form) -> Parsed
+    ensures { λ r. ⌜ r ≡ parsed (step form from (drop at (now (s .entry)))) ⌝ }
 {
     let Value::Number { number, next } = value_at(s, at) else {
         return Parsed::Malformed;
     };
-    if next < s.len() {
+    let Value::Number {
+        number: key,
+        next: end,
+    } = key_at(s, next, form)
+    else {
+        return Parsed::Malformed;
+    };
+    if end < s.len() {
         return Parsed::Malformed;
     }
     Parsed::Update(Update::Step {
-        edge: Edge { from, to: number },
+        edge: Edge {
+            from,
+            to: number,
+            key,
+        },
     })
 }
 
-// The `to` of a terminal mark or a close: a dash up to the line's end.
-fn parse_mark(s: &[u8], at: usize, update: Update) -> Parsed
-    ensures { λ r. ⌜ r ≡ parsed (markWith update (drop at (now (s .entry)))) ⌝ }
+// A step's key: "A record with the old names line gives every step key 0".
+fn key_at(s: &[u8], at: usize, form: Form) -> Value
+    ensures { λ r. ⌜ front (now (s .entry)) r ≡ keyOf form (drop at (now (s .entry))) ⌝ }
+{
+    match form {
+        Form::Plain => Value::Number {
+            number: 0,
+            next: at,
+        },
+        Form::Keyed => spaced_value_at(s, at),
+    }
+}
+
+fn spaced_value_at(s: &[u8], at: usize) -> Value
+    ensures { λ r. ⌜ front (now (s .entry)) r ≡ keyOf Keyed (drop at (now (s .entry))) ⌝ }
+{
+    let After::At(key) = after_space(s, at) else {
+        return Value::Malformed;
+    };
+    value_at(s, key)
+}
+
+// The `to` and the key of a terminal mark or a close, up to the line's end.
+fn parse_mark(s: &[u8], at: usize, update: Update, form: Form) -> Parsed
+    ensures { λ r. ⌜ r ≡ parsed (markWith form update (drop at (now (s .entry)))) ⌝ }
 {
     if s.len() <= at {
         return Parsed::Malformed;
@@ -100,12 +135,42 @@ fn parse_mark(s: &[u8], at: usize, update: Update) -> Parsed
     let b = s[at];
     match b {
         b'-' => {
-            if at + 1 < s.len() {
+            let After::At(end) = after_no_key(s, at + 1, form) else {
+                return Parsed::Malformed;
+            };
+            if end < s.len() {
                 return Parsed::Malformed;
             }
             Parsed::Update(update)
         }
         _ => Parsed::Malformed,
+    }
+}
+
+// The index after the key of a terminal mark or a close, which has none.
+fn after_no_key(s: &[u8], at: usize, form: Form) -> After
+    ensures { λ r. ⌜ rest (now (s .entry)) r ≡ noKey form (drop at (now (s .entry))) ⌝ }
+{
+    match form {
+        Form::Plain => After::At(at),
+        Form::Keyed => after_keyed_dash(s, at),
+    }
+}
+
+// "T and C lines have `-` there."
+fn after_keyed_dash(s: &[u8], at: usize) -> After
+    ensures { λ r. ⌜ rest (now (s .entry)) r ≡ noKey Keyed (drop at (now (s .entry))) ⌝ }
+{
+    let After::At(key) = after_space(s, at) else {
+        return After::Malformed;
+    };
+    if s.len() <= key {
+        return After::Malformed;
+    }
+    let b = s[key];
+    match b {
+        b'-' => After::At(key + 1),
+        _ => After::Malformed,
     }
 }
 

@@ -4,6 +4,7 @@ mod line;
 mod splitter;
 mod text;
 
+pub use line::Form;
 pub use line::Line;
 pub use splitter::Advanced;
 pub use splitter::BAD_NAMES;

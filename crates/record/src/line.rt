@@ -1,7 +1,14 @@
 // The line buffer: "The reader collects each line in its own 16 bytes before judging it."
 ghost use mathlib.Core.Path.{_≡_};
+ghost use Rattle.record.specs.Text.{names};
 ghost use Rattle.record.specs.Items.{same};
 ghost use Rattle.record.specs.Buffer.{emptyLine, filledFrom, isNamesIn};
+
+// The two forms of a record, by its names line: `kind from to`, and `kind from to key`.
+pub enum Form {
+    Plain,
+    Keyed,
+}
 
 pub struct Line {
     // The line's bytes, the first 16 of them.
@@ -50,16 +57,25 @@ impl Line {
         Filled { line, next: i }
     }
 
-    // Whether the line is the names line.
-    pub fn is_names(self) -> bool
-        ensures { λ r. ⌜ r ≡ isNamesIn self ⌝ }
+    // Whether the line is the names line of a form.
+    pub fn is_names(self, form: Form) -> bool
+        ensures { λ r. ⌜ r ≡ isNamesIn form self ⌝ }
     {
         let len = self.len;
         if 16 < len {
             return false;
         }
         let bytes = self.bytes;
-        equal(&bytes[..len], b"kind from to")
+        equal_names(&bytes[..len], form)
+    }
+}
+
+fn equal_names(s: &[u8], form: Form) -> bool
+    ensures { λ r. ⌜ r ≡ same (now (s .entry)) (names form) ⌝ }
+{
+    match form {
+        Form::Plain => equal(s, b"kind from to"),
+        Form::Keyed => equal(s, b"kind from to key"),
     }
 }
 

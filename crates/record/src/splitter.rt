@@ -1,8 +1,9 @@
 // The splitter: it is fed a record in parts of any length, and answers what each line is as the line ends.
 ghost use mathlib.Core.Path.{_≡_};
-ghost use Rattle.record.specs.Splitting.{started, afterFirst, afterFurther, afterLine, afterPart, pending, lastNewline, itemOf};
+ghost use Rattle.record.specs.Splitting.{started, afterNames, afterFirst, afterFurther, afterLine, afterPart, pending, lastNewline, itemOf};
 ghost use lib.ListN.{length};
 use crate::grammar::Parsed;
+use crate::line::Form;
 use crate::line::Line;
 use gid::Update;
 
@@ -41,6 +42,8 @@ pub struct Splitter {
     pub number: usize,
     // Whether reading has stopped.
     pub stopped: bool,
+    // The record's form, once the names line has ended.
+    pub form: Form,
 }
 
 // The splitter comes back beside what is known.
@@ -64,6 +67,7 @@ impl Splitter {
             line: Line::empty(),
             number: 1,
             stopped: false,
+            form: Form::Plain,
         }
     }
 
@@ -75,10 +79,12 @@ impl Splitter {
         let filled = line.filled(s, at);
         let longer = filled.line;
         let next = filled.next;
+        let form = self.form;
         let splitter = Splitter {
             line: longer,
             number: self.number,
             stopped: self.stopped,
+            form,
         };
         if next < s.len() {
             let fed = splitter.ended();
@@ -126,10 +132,11 @@ impl Splitter {
             };
         }
         let line = self.line;
+        let form = self.form;
         if self.number <= 1 {
             first_line(line)
         } else {
-            further_line(line, self.number)
+            further_line(line, self.number, form)
         }
     }
 }
@@ -137,29 +144,40 @@ impl Splitter {
 fn first_line(line: Line) -> Fed
     ensures { λ r. ⌜ r ≡ afterFirst line ⌝ }
 {
-    if line.is_names() {
-        Fed {
-            splitter: Splitter {
-                line: Line::empty(),
-                number: 2,
-                stopped: false,
-            },
-            item: Item::Nothing,
-        }
-    } else {
-        Fed {
-            splitter: Splitter {
-                line: Line::empty(),
-                number: 2,
-                stopped: true,
-            },
-            item: Item::BadNames,
-        }
+    if line.is_names(Form::Plain) {
+        return named(Form::Plain);
+    }
+    if line.is_names(Form::Keyed) {
+        return named(Form::Keyed);
+    }
+    Fed {
+        splitter: Splitter {
+            line: Line::empty(),
+            number: 2,
+            stopped: true,
+            form: Form::Plain,
+        },
+        item: Item::BadNames,
     }
 }
 
-fn further_line(line: Line, number: usize) -> Fed
-    ensures { λ r. ⌜ r ≡ afterFurther line number ⌝ }
+// The names line has ended.
+fn named(form: Form) -> Fed
+    ensures { λ r. ⌜ r ≡ afterNames form ⌝ }
+{
+    Fed {
+        splitter: Splitter {
+            line: Line::empty(),
+            number: 2,
+            stopped: false,
+            form,
+        },
+        item: Item::Nothing,
+    }
+}
+
+fn further_line(line: Line, number: usize, form: Form) -> Fed
+    ensures { λ r. ⌜ r ≡ afterFurther form line number ⌝ }
 {
     if MAX_LINES < number {
         return Fed {
@@ -167,6 +185,7 @@ fn further_line(line: Line, number: usize) -> Fed
                 line: Line::empty(),
                 number: number,
                 stopped: true,
+                form,
             },
             item: Item::TooMany,
         };
@@ -176,8 +195,9 @@ fn further_line(line: Line, number: usize) -> Fed
             line: Line::empty(),
             number: number + 1,
             stopped: false,
+            form,
         },
-        item: item_of(line.parse(), number),
+        item: item_of(line.parse(form), number),
     }
 }
 

@@ -5,7 +5,8 @@ ghost use Prim.Native.Nat.{ℕ, _≤_, _<_, _+_};
 ghost use lib.ListN.{length};
 ghost use Rattle.gid.specs.declared.Update.{Update};
 ghost use mathlib.Core.Option.{none};
-ghost use Rattle.record.specs.Text.{decimal, head, last, text, Wrote, WroteAt};
+ghost use Rattle.record.specs.declared.line.Form.the-variants.{Keyed};
+ghost use Rattle.record.specs.Text.{decimal, head, field, keyed, text, Wrote, WroteAt};
 use gid::Edge;
 use gid::Update;
 
@@ -49,10 +50,10 @@ fn digit(d: usize) -> u8
     b'0' + d as u8
 }
 
-// The line of an update, with its newline.
+// The line of an update, with its newline: "the writer uses the new line", so it is of the keyed form.
 pub fn put_update(buf: &mut [u8], update: Update) -> usize
-    requires { ⌜ length (text update) < length (now buf) ⌝ }
-    ensures { λ r. ⌜ Wrote (text update ++ (10 ∷ [])) (now (buf .entry)) (now (buf .exit)) r ⌝ }
+    requires { ⌜ length (text Keyed update) < length (now buf) ⌝ }
+    ensures { λ r. ⌜ Wrote (text Keyed update ++ (10 ∷ [])) (now (buf .entry)) (now (buf .exit)) r ⌝ }
 {
     match update {
         Update::Step { edge } => put_step(buf, edge),
@@ -62,24 +63,23 @@ pub fn put_update(buf: &mut [u8], update: Update) -> usize
 }
 
 fn put_step(buf: &mut [u8], edge: Edge) -> usize
-    requires { ⌜ length (text (Update.Step edge)) < length (now buf) ⌝ }
-    ensures { λ r. ⌜ Wrote (text (Update.Step edge) ++ (10 ∷ [])) (now (buf .entry)) (now (buf .exit)) r ⌝ }
+    requires { ⌜ length (text Keyed (Update.Step edge)) < length (now buf) ⌝ }
+    ensures { λ r. ⌜ Wrote (text Keyed (Update.Step edge) ++ (10 ∷ [])) (now (buf .entry)) (now (buf .exit)) r ⌝ }
 {
     let at = put_head(buf, b'E', edge.from);
-    let end = put_number_at(buf, at, edge.to);
+    let space = put_number_at(buf, at, edge.to);
+    buf[space] = b' ';
+    let end = put_number_at(buf, space + 1, edge.key);
     buf[end] = b'\n';
     end + 1
 }
 
 fn put_mark(buf: &mut [u8], kind: u8, state: usize) -> usize
-    requires { ⌜ length (head kind state ++ last none) < length (now buf) ⌝ }
-    ensures { λ r. ⌜ Wrote (head kind state ++ last none ++ (10 ∷ [])) (now (buf .entry)) (now (buf .exit)) r ⌝ }
+    requires { ⌜ length (head kind state ++ field none ++ keyed Keyed (field none)) < length (now buf) ⌝ }
+    ensures { λ r. ⌜ Wrote (head kind state ++ field none ++ keyed Keyed (field none) ++ (10 ∷ [])) (now (buf .entry)) (now (buf .exit)) r ⌝ }
 {
     let at = put_head(buf, kind, state);
-    buf[at] = b'-';
-    let end = at + 1;
-    buf[end] = b'\n';
-    end + 1
+    put_bytes_at(buf, at, b"- -\n")
 }
 
 // The kind and the first value, each with the space after it.

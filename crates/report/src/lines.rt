@@ -32,6 +32,7 @@ pub fn list_lines(
     marks: &mut [u8],
     from: &mut [u16],
     to: &mut [u16],
+    key: &mut [u8],
     successor: &mut [u16],
     news: &mut [u16],
     in_head: &mut [u16],
@@ -42,7 +43,7 @@ pub fn list_lines(
     out_next: &mut [u16],
 ) -> LinesEnd
     requires { ⌜ (index ≤ length (now part)) × (at ≤ length (now buf)) ⌝ }
-    ensures { λ r. ⌜ Lines (reader .splitter) (now (part .entry)) index (reader .engine .graph) (tablesOf (now (status .entry)) (now (marks .entry)) (now (from .entry)) (now (to .entry)) (now (successor .entry)) (now (news .entry)) (now («in_head» .entry)) (now («out_head» .entry)) (now (queue .entry)) (now (visited .entry)) (now («in_next» .entry)) (now («out_next» .entry))) (r .reader .splitter) (r .next) (r .reader .engine .graph) (tablesOf (now (status .exit)) (now (marks .exit)) (now (from .exit)) (now (to .exit)) (now (successor .exit)) (now (news .exit)) (now («in_head» .exit)) (now («out_head» .exit)) (now (queue .exit)) (now (visited .exit)) (now («in_next» .exit)) (now («out_next» .exit))) at (now (buf .entry)) (now (buf .exit)) (r .end) ⌝ }
+    ensures { λ r. ⌜ Lines (reader .splitter) (now (part .entry)) index (reader .engine .graph) (tablesOf (now (status .entry)) (now (marks .entry)) (now (from .entry)) (now (to .entry)) (now (key .entry)) (now (successor .entry)) (now (news .entry)) (now («in_head» .entry)) (now («out_head» .entry)) (now (queue .entry)) (now (visited .entry)) (now («in_next» .entry)) (now («out_next» .entry))) (r .reader .splitter) (r .next) (r .reader .engine .graph) (tablesOf (now (status .exit)) (now (marks .exit)) (now (from .exit)) (now (to .exit)) (now (key .exit)) (now (successor .exit)) (now (news .exit)) (now («in_head» .exit)) (now («out_head» .exit)) (now (queue .exit)) (now (visited .exit)) (now («in_next» .exit)) (now («out_next» .exit))) at (now (buf .entry)) (now (buf .exit)) (r .end) ⌝ }
 {
     let mut current = reader;
     let mut next = index;
@@ -59,6 +60,7 @@ pub fn list_lines(
             marks,
             from,
             to,
+            key,
             successor,
             news,
             in_head,

@@ -2,15 +2,17 @@
 -- Assumes nothing.
 use mathlib.Core.Path.{_≡_, sym, _∙_, ap}
 use mathlib.Core.Logic.{_↔_}
-use mathlib.Core.List.{List}
-use Prim.Native.Nat.{ℕ, _<_}
+use mathlib.Core.List.{List, map}
+use Prim.Native.Nat.{ℕ, _<_, _≤_}
+use native.Mathlib.Omega.{arith}
 use lib.ListN.{length, getD, take, List·getD-map}
 use lib.Seq.{getD-take}
 use Rattle.gid.specs.declared.Edge.{Edge}
 use Rattle.gid.specs.Updates.{edge}
 use Rattle.gid.specs.Histories.{History, IsStep, listed}
 use Rattle.gid.specs.Systems.{ListedAt}
-use Rattle.gid.proofs.Listing.{step-arc, arc-step}
+use Rattle.gid.specs.Refusals.{maxKey}
+use Rattle.gid.proofs.Listing.{step-arc, arc-step, listed-has}
 use Rattle.tables.specs.declared.Graph.{Graph}
 use Rattle.tables.specs.Tables.{Tables}
 use Rattle.tables.specs.Fitting.{sources, targets, StepAt, Consistent}
@@ -21,18 +23,23 @@ pub record ListsSteps (h : History) (m : ℕ) (from to : List ℕ) : Type 0 wher
   pub froms : take m from ≡ sources h
   pub tos : take m to ≡ targets h
 
-module _ {h : History} {m : ℕ} {from to : List ℕ} (l : ListsSteps h m from to) where
-  from-at : (p : ℕ) → p < m → getD from p 0 ≡ getD (listed h) p (edge 0 0) .from
-  from-at p k = sym (getD-take m from p 0 k) ∙ ap (λ (z : List ℕ). getD z p 0) (l .froms) ∙ List·getD-map (λ (e : Edge). e .from) (listed h) p (edge 0 0)
+module _ (h : History) {m : ℕ} where
+  -- A column of the step list, entry by entry.
+  column-at : (f : Edge → ℕ) (l : List ℕ) → take m l ≡ map f (listed h) → (p : ℕ) → p < m → getD l p (f (edge 0 0 0)) ≡ f (getD (listed h) p (edge 0 0 0))
+  column-at f l e p k = sym (getD-take m l p (f (edge 0 0 0)) k) ∙ ap (λ (z : List ℕ). getD z p (f (edge 0 0 0))) e ∙ List·getD-map f (listed h) p (edge 0 0 0)
 
-  to-at : (p : ℕ) → p < m → getD to p 0 ≡ getD (listed h) p (edge 0 0) .to
-  to-at p k = sym (getD-take m to p 0 k) ∙ ap (λ (z : List ℕ). getD z p 0) (l .tos) ∙ List·getD-map (λ (e : Edge). e .to) (listed h) p (edge 0 0)
+module _ {h : History} {m : ℕ} {from to : List ℕ} (l : ListsSteps h m from to) where
+  from-at : (p : ℕ) → p < m → getD from p 0 ≡ getD (listed h) p (edge 0 0 0) .from
+  from-at = column-at h (λ (e : Edge). e .from) from (l .froms)
+
+  to-at : (p : ℕ) → p < m → getD to p 0 ≡ getD (listed h) p (edge 0 0 0) .to
+  to-at = column-at h (λ (e : Edge). e .to) to (l .tos)
 
   -- The arcs of the tables are those of the history's system.
   pub arcs-listed : (s p t : ℕ) → StepAt m from to s p t ↔ ListedAt h s p t
   arcs-listed s p t = (
-    λ a. (rw (l .count) at (a .0), λ i. record { from = (sym (from-at p (a .0)) ∙ a .1) i; to = (sym (to-at p (a .0)) ∙ a .2) i }),
-    λ a. let k : p < m = rw (l .count) (a .0) in (k, from-at p k ∙ ap (λ (e : Edge). e .from) (a .1), to-at p k ∙ ap (λ (e : Edge). e .to) (a .1)),
+    λ a. (rw (l .count) at (a .0), sym (from-at p (a .0)) ∙ a .1, sym (to-at p (a .0)) ∙ a .2),
+    λ a. let k : p < m = rw (l .count) (a .0) in (k, from-at p k ∙ a .1, to-at p k ∙ a .2),
   )
 
   -- A step of the history is listed.
@@ -47,3 +54,15 @@ module _ {h : History} {m : ℕ} {from to : List ℕ} (l : ListsSteps h m from t
 module _ {h : History} {g : Graph} {t : Tables} (c : Consistent h g t) where
   pub lists-of : ListsSteps h (g .steps) (t .from) (t .to)
   lists-of = record { count = c .steps; froms = c .from; tos = c .to }
+
+  -- What is listed at a place.
+  pub listed-at : (p : ℕ) → p < g .steps → edge (getD (t .from) p 0) (getD (t .to) p 0) (getD (t .key) p 0) ≡ getD (listed h) p (edge 0 0 0)
+  listed-at p k =
+      rw (column-at h (λ (e : Edge). e .from) (t .from) (c .from) p k, column-at h (λ (e : Edge). e .to) (t .to) (c .to) p k, column-at h (λ (e : Edge). e .key) (t .key) (c .key) p k)
+
+  -- A listed key is that of a step of the history, so it is in range.
+  pub listed-key : (p : ℕ) → p < g .steps → getD (t .key) p 0 ≤ maxKey
+  listed-key p k =
+      let i : p < length (listed h) = omega (arith, c .steps) in
+      let e = column-at h (λ (e : Edge). e .key) (t .key) (c .key) p k in
+      rw e (c .keysInRange (getD (listed h) p (edge 0 0 0)) (listed-has h i))

@@ -56,11 +56,11 @@ lent-numbered : (g : Given) → Positive (lent g)
 lent-numbered g = (omega arith, (omega arith, (omega arith, (omega arith, tt))))
 
 sent-numbered : (g : Given) (x : Update) → Positive (sent g x)
-sent-numbered g (Step e) = (omega arith, (omega arith, (omega arith, tt)))
+sent-numbered g (Step e) = (omega arith, (omega arith, (omega arith, (omega arith, tt))))
 sent-numbered g (Terminal u) = (omega arith, (omega arith, tt))
 sent-numbered g (Close u) = (omega arith, tt)
 
--- The tests 5 to 9 do not turn on the tables' lengths.
+-- The tests behind 4 do not turn on the tables' lengths.
 sent-any : (g : Graph) (long full : Bool) (marks : List ℕ) (x : Update) → first (sent (given g long full marks) x) ≡ first (sent (given g true full marks) x)
 sent-any g long full marks (Step e) = refl
 sent-any g long full marks (Terminal u) = refl
@@ -75,7 +75,7 @@ pub lent-refuses : (g : Graph) (long : Bool) (k : ℕ) → lentNumber g long ≡
 unfolding lentNumber
 lent-refuses g long k e n = number-some (first (lentRules g long)) k e n
 
--- The tests 5 to 9 pass where the code's number is 0.
+-- The tests behind 4 pass where the code's number is 0.
 pub sent-passes : (g : Graph) (full : Bool) (marks : List ℕ) (x : Update) → sentNumber g full marks x ≡ 0 → first (sent (given g true full marks) x) ≡ none
 unfolding sentNumber
 sent-passes g full marks x e = number-none (sent (given g true full marks) x) (sent-numbered (given g true full marks) x) e
@@ -178,7 +178,7 @@ split-none (r ∷ l) m e = at (r .applies) e (split-none l m)
     at true q i = absurd (let z : _≡_ {A = ℕ} 0 1 = cc in omega arith)
     at false q i = i q
 
--- An accepted update has passed the tests 1 to 4 and the tests 5 to 9.
+-- An accepted update has passed the tests 1 to 4 and those behind them.
 pub accepted-passes : (g : Graph) (t : Tables) (x : Update) → refusalOn g t x ≡ none → (lentNumber g (longEnough g t) ≡ 0) × (sentNumber g (isFull g) (t .marks) x ≡ 0)
 unfolding refusal lentNumber sentNumber
 accepted-passes g t x e =

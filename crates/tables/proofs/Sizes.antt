@@ -36,13 +36,14 @@ module _ (n nodes limit : ℕ) (t : Tables) where
         marks = a .1 .0;
         from = a .1 .1 .0;
         to = a .1 .1 .1 .0;
-        successor = a .1 .1 .1 .1 .0;
-        inHead = a .1 .1 .1 .1 .1 .0;
-        outHead = a .1 .1 .1 .1 .1 .1 .0;
-        queue = a .1 .1 .1 .1 .1 .1 .1 .0;
-        visited = a .1 .1 .1 .1 .1 .1 .1 .1 .0;
-        inNext = a .1 .1 .1 .1 .1 .1 .1 .1 .1 .0;
-        outNext = a .1 .1 .1 .1 .1 .1 .1 .1 .1 .1 .0;
+        key = a .1 .1 .1 .1 .0;
+        successor = a .1 .1 .1 .1 .1 .0;
+        inHead = a .1 .1 .1 .1 .1 .1 .0;
+        outHead = a .1 .1 .1 .1 .1 .1 .1 .0;
+        queue = a .1 .1 .1 .1 .1 .1 .1 .1 .0;
+        visited = a .1 .1 .1 .1 .1 .1 .1 .1 .1 .0;
+        inNext = a .1 .1 .1 .1 .1 .1 .1 .1 .1 .1 .0;
+        outNext = a .1 .1 .1 .1 .1 .1 .1 .1 .1 .1 .1 .0;
       }
 
   pub long-checked : enough (checkNeeds n nodes limit (lengths t)) ≡ true → Long n nodes limit t
@@ -59,6 +60,7 @@ long-fewer h l =
       marks = l .marks;
       from = omega (arith, l .from);
       to = omega (arith, l .to);
+      key = omega (arith, l .key);
       successor = l .successor;
       inHead = l .inHead;
       outHead = l .outHead;

@@ -20,10 +20,12 @@ unfolding listed marksOf isNamed isTerminal isClosed lastBefore
 fresh-consistent g t f =
     record {
       inRange = λ s m. absurd (List·Memᴰ·not-nil (m .1));
+      keysInRange = λ e m. absurd (List·Memᴰ·not-nil m);
       marks = λ s h. f .marks s h;
       steps = f .noSteps;
       from = rw (f .noSteps);
       to = rw (f .noSteps);
+      key = rw (f .noSteps);
       status = λ s h. f .status s h ∙ sym (status-unseen [] s .1 (λ m. List·Memᴰ·not-nil (m .1)));
       successor =
           successor-rule (g .n) (StepAt (g .steps) (t .from) (t .to)) (λ s. getD (t .status) s 0) (λ s. getD (t .successor) s 0)

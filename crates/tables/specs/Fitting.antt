@@ -3,23 +3,28 @@
 use mathlib.Core.Path.{_≡_}
 use mathlib.Core.Bool.{cond}
 use mathlib.Core.List.{List, map}
-use Prim.Native.Nat.{ℕ, _+_, _<_}
+use Prim.Native.Nat.{ℕ, _+_, _<_, _≤_}
 use lib.ListN.{getD, take, length}
 use Rattle.gid.specs.declared.Edge.{Edge}
-use Rattle.gid.specs.Histories.{History, Legal, IsNamed, listed}
+use Rattle.gid.specs.declared.Update.the-variants.{Step}
+use Rattle.gid.specs.Histories.{History, Has, Legal, IsNamed, listed}
 use Rattle.gid.specs.Statuses.{isNamed, isTerminal, isClosed, status}
 use Rattle.gid.specs.Successors.{SuccessorRule, noSuccessor}
+use Rattle.gid.specs.Refusals.{maxKey}
 use Rattle.tables.specs.declared.Graph.{Graph}
 use Rattle.tables.specs.Tables.{Tables, lengths, nodesOf, visitedLength}
 use Rattle.tables.specs.Visits.{NoneVisited}
 use Rattle.tables.specs.Work.{ListRule}
 
--- The two ends of a history's steps, in order of acceptance.
+-- The two ends of a history's steps and their keys, in order of acceptance.
 abbrev pub sources : History → List ℕ
 sources h = map (λ (e : Edge). e .from) (listed h)
 
 abbrev pub targets : History → List ℕ
 targets h = map (λ (e : Edge). e .to) (listed h)
+
+abbrev pub keys : History → List ℕ
+keys h = map (λ (e : Edge). e .key) (listed h)
 
 -- The listed steps as a relation of state, place and state, over the first m entries of the step list.
 abbrev pub StepAt : ℕ → List ℕ → List ℕ → ℕ → ℕ → ℕ → Type 0
@@ -33,11 +38,14 @@ marksOf h s = cond (isNamed h s) 1 0 + cond (isTerminal h s) 2 0 + cond (isClose
 pub record Consistent (h : History) (g : Graph) (t : Tables) : Type 0 where
   -- The states of the history are those of the tables, "numbered 0 to n−1".
   pub inRange : (s : ℕ) → IsNamed h s → s < g .n
+  -- "Each step now carries a key, 0 to 31"
+  pub keysInRange : (e : Edge) → Has h (Step e) → e .key ≤ maxKey
   -- "these marks, this step list and these statuses"
   pub marks : (s : ℕ) → s < g .n → getD (t .marks) s 0 ≡ marksOf h s
   pub steps : g .steps ≡ length (listed h)
   pub from : take (g .steps) (t .from) ≡ sources h
   pub to : take (g .steps) (t .to) ≡ targets h
+  pub key : take (g .steps) (t .key) ≡ keys h
   pub status : (s : ℕ) → s < nodesOf g → getD (t .status) s 0 ≡ status h s
   -- "and the successor rule holds"
   pub successor : SuccessorRule (nodesOf g) (StepAt (g .steps) (t .from) (t .to)) (λ s. getD (t .status) s 0) (λ s. getD (t .successor) s 0)
@@ -73,6 +81,7 @@ pub record Checked (g : Graph) (t t′ : Tables) : Type 0 where
   pub marks : t′ .marks ≡ t .marks
   pub from : t′ .from ≡ t .from
   pub to : t′ .to ≡ t .to
+  pub key : t′ .key ≡ t .key
   pub successor : t′ .successor ≡ t .successor
   pub news : t′ .news ≡ t .news
   pub sizes : lengths t′ ≡ lengths t

@@ -21,6 +21,7 @@ pub record KeptTables (n nodes limit : ℕ) (t t′ : Tables) : Type 0 where
   pub marks : Kept n (t .marks) (t′ .marks)
   pub from : Kept limit (t .from) (t′ .from)
   pub to : Kept limit (t .to) (t′ .to)
+  pub key : Kept limit (t .key) (t′ .key)
   pub successor : Kept nodes (t .successor) (t′ .successor)
   pub news : Kept n (t .news) (t′ .news)
   pub inHead : Kept nodes (t .inHead) (t′ .inHead)

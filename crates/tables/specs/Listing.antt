@@ -18,3 +18,6 @@ fromAfter m x from = sets from m (map (λ (e : Edge). e .from) (added x))
 
 abbrev pub toAfter : ℕ → Update → List ℕ → List ℕ
 toAfter m x to = sets to m (map (λ (e : Edge). e .to) (added x))
+
+abbrev pub keyAfter : ℕ → Update → List ℕ → List ℕ
+keyAfter m x key = sets key m (map (λ (e : Edge). e .key) (added x))

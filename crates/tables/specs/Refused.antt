@@ -44,7 +44,7 @@ abbrev pub number : Option ℕ → ℕ
 number none = 0
 number (some k) = k
 
--- The tests 1 to 4, and the tests 5 to 9, by themselves.
+-- The tests 1 to 4, and the tests behind them, by themselves.
 unfoldable pub lentNumber : Graph → Bool → ℕ
 lentNumber g long = number (first (lentRules g long))
 

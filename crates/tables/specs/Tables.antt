@@ -13,9 +13,10 @@ pub record Tables : Type 0 where
   pub status : List ℕ
   -- "Marks, a byte for each state, the sum of 1 (named), 2 (terminal), 4 (closed)."
   pub marks : List ℕ
-  -- "Step list: two tables of 16-bit numbers, from and to, each as long as the step limit, in order of acceptance."
+  -- "Step list: two tables of 16-bit numbers, from and to, each as long as the step limit, in order of acceptance." The keys, bytes, are "held in a third table beside from and to" (document 02, #101).
   pub from : List ℕ
   pub to : List ℕ
+  pub key : List ℕ
   -- "Successors, a 16-bit number for each state."
   pub successor : List ℕ
   -- "News list, a 16-bit number for each state."
@@ -31,13 +32,14 @@ pub record Tables : Type 0 where
   pub outNext : List ℕ
 
 -- The lent lists, in the order in which the calls take them.
-abbrev pub tablesOf : (status marks from to successor news inHead outHead queue visited inNext outNext : List ℕ) → Tables
-tablesOf status marks from to successor news inHead outHead queue visited inNext outNext =
+abbrev pub tablesOf : (status marks from to key successor news inHead outHead queue visited inNext outNext : List ℕ) → Tables
+tablesOf status marks from to key successor news inHead outHead queue visited inNext outNext =
     record {
       status = status;
       marks = marks;
       from = from;
       to = to;
+      key = key;
       successor = successor;
       news = news;
       inHead = inHead;
@@ -78,6 +80,7 @@ lengths t =
       visited = length (t .visited);
       from = length (t .from);
       to = length (t .to);
+      key = length (t .key);
       «in_next» = length (t .inNext);
       «out_next» = length (t .outNext);
     }
@@ -99,6 +102,7 @@ checkNeeds n nodes limit l =
     record { have = l .marks; need = n } ∷
     record { have = l .from; need = limit } ∷
     record { have = l .to; need = limit } ∷
+    record { have = l .key; need = limit } ∷
     record { have = l .successor; need = nodes } ∷ workNeeds nodes limit l
 
 -- An update is lent the news list besides.
@@ -119,6 +123,7 @@ pub record Long (n nodes limit : ℕ) (t : Tables) : Type 0 where
   pub marks : n ≤ length (t .marks)
   pub from : limit ≤ length (t .from)
   pub to : limit ≤ length (t .to)
+  pub key : limit ≤ length (t .key)
   pub successor : nodes ≤ length (t .successor)
   pub inHead : nodes ≤ length (t .inHead)
   pub outHead : nodes ≤ length (t .outHead)

@@ -18,6 +18,7 @@ pub struct Lengths {
     // An entry for each step of the limit.
     pub from: usize,
     pub to: usize,
+    pub key: usize,
     pub in_next: usize,
     pub out_next: usize,
 }
@@ -41,6 +42,7 @@ impl Lengths {
         let rest = both(nodes <= self.out_head, rest);
         let rest = both(nodes <= self.in_head, rest);
         let rest = both(nodes <= self.successor, rest);
+        let rest = both(limit <= self.key, rest);
         let rest = both(limit <= self.to, rest);
         let rest = both(limit <= self.from, rest);
         let rest = both(n <= self.marks, rest);

@@ -1,4 +1,4 @@
-// What the engine is handed, and what it refuses: the state value, the caller's tables, the numbers 1 to 9, the mark bits, and the status question.
+// What the engine is handed, and what it refuses: the state value, the caller's tables, the numbers 1 to 9 and 14, the mark bits, and the status question.
 ghost use mathlib.Core.Path.{_≡_};
 ghost use mathlib.Core.Bool.{Bool};
 ghost use mathlib.Core.List.{List};
@@ -38,6 +38,8 @@ pub use visits::visited_len;
 pub const MAX_STATES: usize = 2048;
 // "The step limit is from 1 to 8,192."
 pub const MAX_STEPS: usize = 8192;
+// "Each step now carries a key, 0 to 31"
+pub const MAX_KEY: usize = 31;
 // "For every other state the entry is 65,535."
 pub const NO_SUCCESSOR: u16 = 65535;
 
@@ -62,6 +64,8 @@ pub const SHORT_TABLE: u8 = 3;
 pub const EXCESS_STEPS: u8 = 4;
 // and of the explorer that sends.
 pub const OUT_OF_RANGE: u8 = 5;
+
+pub const BAD_KEY: u8 = 14;
 
 pub const CLOSED_SOURCE: u8 = 6;
 
@@ -123,7 +127,7 @@ impl Graph {
         self.steps == self.limit
     }
 
-    // The number of the first of the tests 5 to 9 that applies to an update, or 0. `full`: a step finds no place.
+    // The number of the first of the tests 5, 14, 6 and 9 that applies to an update, or 0. `full`: a step finds no place.
     pub fn sent(self, full: bool, update: Update, marks: &[u8]) -> u8
         requires { ⌜ self .n ≤ length (now marks) ⌝ }
         ensures { λ r. ⌜ r ≡ sentNumber self full (now (marks .entry)) update ⌝ }
@@ -145,6 +149,9 @@ impl Graph {
         }
         if self.n <= edge.to {
             return OUT_OF_RANGE;
+        }
+        if MAX_KEY < edge.key {
+            return BAD_KEY;
         }
         if has_closed(marks[from]) {
             return CLOSED_SOURCE;

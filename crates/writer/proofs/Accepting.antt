@@ -1,4 +1,4 @@
--- A legal history is accepted update by update, and so line by line: its states are in range, and its steps within the limit.
+-- A legal history is accepted update by update, and so line by line: its states and keys are in range, and its steps within the limit.
 -- Assumes nothing.
 use mathlib.Core.Path.{_≡_, refl, _∙_, ap}
 use mathlib.Core.Logic.{inl, inr}
@@ -15,7 +15,7 @@ use Rattle.gid.specs.Updates.{Mentions}
 use Rattle.gid.specs.Histories.{History, IsClosed, MayFollow, Legal, following, added, listed}
 use Rattle.gid.specs.Statuses.{isClosed}
 use Rattle.gid.specs.News.{news}
-use Rattle.gid.specs.Refusals.{lent, sent, refusal, maxSteps}
+use Rattle.gid.specs.Refusals.{lent, sent, refusal, maxSteps, maxKey}
 use Rattle.gid.specs.Outcomes.{accepted, givenAfter, outcome, after}
 use Rattle.gid.proofs.Decide.{refutes}
 use Rattle.gid.proofs.Tests.{decides-closed}
@@ -24,9 +24,14 @@ use Rattle.reader.specs.Opening.{readerStates, readerGraph}
 use Rattle.reader.specs.Replaying.{afterItems, firstRefusal}
 use Rattle.writer.proofs.Splits.{numbered}
 
--- The states of an update are below n.
-abbrev pub StatesBelow : ℕ → Update → Type 0
-StatesBelow n x = (s : ℕ) → Mentions x s → s < n
+-- The states of an update are below n, and its key, where it has one, is 0 to 31.
+abbrev pub KeyFits : Update → Type 0
+KeyFits (Step e) = e .key ≤ maxKey
+KeyFits (Terminal u) = Unit {0}
+KeyFits (Close u) = Unit {0}
+
+abbrev pub InBounds : ℕ → Update → Type 0
+InBounds n x = ((s : ℕ) → Mentions x s → s < n) × KeyFits x
 
 -- a part of a legal history is legal, and has no more steps
 legal-before : (h : History) (l : List Update) → Legal (following h l) → Legal h
@@ -40,7 +45,7 @@ fewer-before h (x ∷ l) = omega (arith, length-append (listed h) (added x), few
 
 module _ (limit : ℕ) (some-limit : 0 < limit) (low : limit ≤ maxSteps) where
   -- no test applies to an update that may follow
-  unrefused : (h : History) (x : Update) → StatesBelow readerStates x → MayFollow h x → length (listed (x ∷ h)) ≤ limit → refusal (givenAfter readerStates limit h) x ≡ none
+  unrefused : (h : History) (x : Update) → InBounds readerStates x → MayFollow h x → length (listed (x ∷ h)) ≤ limit → refusal (givenAfter readerStates limit h) x ≡ none
   unfolding refusal givenAfter listed
   unrefused h x r o c = first-none (lent (givenAfter readerStates limit h)) (sent (givenAfter readerStates limit h) x) (none-applies (lent (givenAfter readerStates limit h)) (lent-passed (fewer-before h (x ∷ [])))) ∙ none-applies (sent (givenAfter readerStates limit h) x) (sent-passed x r o c)
     where
@@ -50,17 +55,17 @@ module _ (limit : ℕ) (some-limit : 0 < limit) (low : limit ≤ maxSteps) where
       unclosed : (u : ℕ) → (IsClosed h u → ⊥) → isClosed h u ≡ false
       unclosed u n = refutes (isClosed h u) (decides-closed h u) n
 
-      sent-passed : (y : Update) → StatesBelow readerStates y → MayFollow h y → length (listed (y ∷ h)) ≤ limit → NoneApply (sent (givenAfter readerStates limit h) y)
-      sent-passed (Step e) q n k = (rw (lt-leb readerStates (e .from) (q (e .from) (inl refl)), lt-leb readerStates (e .to) (q (e .to) (inr refl))), (unclosed (e .from) n, (ne-eqb (length (listed h)) limit (λ z. omega (arith, length-append (listed h) (e ∷ []))), tt)))
-      sent-passed (Terminal u) q n k = (lt-leb readerStates u (q u refl), (unclosed u n, tt))
-      sent-passed (Close u) q n k = (lt-leb readerStates u (q u refl), tt)
+      sent-passed : (y : Update) → InBounds readerStates y → MayFollow h y → length (listed (y ∷ h)) ≤ limit → NoneApply (sent (givenAfter readerStates limit h) y)
+      sent-passed (Step e) q n k = (rw (lt-leb readerStates (e .from) (q .0 (e .from) (inl refl)), lt-leb readerStates (e .to) (q .0 (e .to) (inr refl))), (le-ltb maxKey (e .key) (q .1), (unclosed (e .from) n, (ne-eqb (length (listed h)) limit (λ z. omega (arith, length-append (listed h) (e ∷ []))), tt))))
+      sent-passed (Terminal u) q n k = (lt-leb readerStates u (q .0 u refl), (unclosed u n, tt))
+      sent-passed (Close u) q n k = (lt-leb readerStates u (q .0 u refl), tt)
 
   accepts : (h : History) (x : Update) → refusal (givenAfter readerStates limit h) x ≡ none → (outcome readerStates limit h x ≡ accepted (news readerStates h x)) × (after readerStates limit h x ≡ x ∷ h)
   unfolding outcome after
   accepts h x e = (rw (e, outcome), rw (e, after))
 
   -- No line is refused, and the history after them is all of them.
-  pub lines-accepted : (k : ℕ) (h : History) (l : List Update) → Legal (following h l) → ((x : Update) → List·Memᴰ x l → StatesBelow readerStates x) → length (listed (following h l)) ≤ limit → (firstRefusal (readerGraph limit) h (numbered k l) ≡ none) × (afterItems (readerGraph limit) h (numbered k l) ≡ following h l)
+  pub lines-accepted : (k : ℕ) (h : History) (l : List Update) → Legal (following h l) → ((x : Update) → List·Memᴰ x l → InBounds readerStates x) → length (listed (following h l)) ≤ limit → (firstRefusal (readerGraph limit) h (numbered k l) ≡ none) × (afterItems (readerGraph limit) h (numbered k l) ≡ following h l)
   unfolding numbered
   lines-accepted k h [] p r c = (refl, refl)
   lines-accepted k h (x ∷ l) p r c =

@@ -11,10 +11,10 @@ use lib.ListN.{length, length-append}
 use Rattle.gid.specs.declared.Edge.{Edge}
 use Rattle.gid.specs.declared.Update.{Update}
 use Rattle.gid.specs.declared.Update.the-variants.{Step, Terminal, Close}
-use Rattle.record.specs.Text.{decimal, head, text, maxValue, Within}
-use Rattle.record.proofs.Decimals.{decimal-digit}
-use Rattle.record.proofs.Writing.{room-more, head-length}
-use Rattle.record.proofs.Reading.{text-length}
+use Rattle.record.specs.declared.line.Form.the-variants.{Keyed}
+use Rattle.record.specs.Text.{decimal, text, maxValue, Within}
+use Rattle.record.proofs.Decimals.{decimal-digit, five-digits as most}
+use Rattle.record.proofs.Writing.{room-more, step-length, mark-length}
 use Rattle.writer.specs.declared.marking.Mark.{Mark}
 use Rattle.writer.specs.declared.marking.Mark.the-variants.{Terminal as ForTerminal, Close as ForClose}
 use Rattle.writer.specs.Order.{hasMark, marking, inOrder, markedLines, stepLines, writtenUpdates, lineBytes, bytesOf, namesBytes, recordOf}
@@ -39,20 +39,22 @@ four-digits v p q = more-digits v 3 (omega arith) (three-digits (v / 10) (omega 
 pub five-digits : (v : ℕ) → 10000 ≤ v → v < 100000 → length (decimal v) ≡ 5
 five-digits v p q = more-digits v 4 (omega arith) (four-digits (v / 10) (omega arith) (omega arith))
 
-pub step-size : (e : Edge) → length (lineBytes (Step e)) ≡ length (decimal (e .from)) + length (decimal (e .to)) + 4
-step-size e = omega (arith, length-append (text (Step e)) (10 ∷ []), length-append (head 69 (e .from)) (decimal (e .to)), head-length 69 (e .from))
+pub step-size : (e : Edge) → length (lineBytes (Step e)) ≡ length (decimal (e .from)) + length (decimal (e .to)) + length (decimal (e .key)) + 5
+step-size e = omega (arith, length-append (text Keyed (Step e)) (10 ∷ []), step-length e)
 
-pub terminal-size : (u : ℕ) → length (lineBytes (Terminal u)) ≡ length (decimal u) + 5
-terminal-size u = omega (arith, length-append (text (Terminal u)) (10 ∷ []), length-append (head 84 u) (45 ∷ []), head-length 84 u)
+pub terminal-size : (u : ℕ) → length (lineBytes (Terminal u)) ≡ length (decimal u) + 7
+terminal-size u = omega (arith, length-append (text Keyed (Terminal u)) (10 ∷ []), mark-length 84 u)
 
-pub close-size : (u : ℕ) → length (lineBytes (Close u)) ≡ length (decimal u) + 5
-close-size u = omega (arith, length-append (text (Close u)) (10 ∷ []), length-append (head 67 u) (45 ∷ []), head-length 67 u)
+pub close-size : (u : ℕ) → length (lineBytes (Close u)) ≡ length (decimal u) + 7
+close-size u = omega (arith, length-append (text Keyed (Close u)) (10 ∷ []), mark-length 67 u)
 
--- a line has at most 14 bytes
-pub line-bound : (x : Update) → Within x → length (lineBytes x) ≤ 14
-line-bound x w = omega (arith, length-append (text x) (10 ∷ []), text-length x w)
+-- a line has at most 20 bytes
+pub line-bound : (x : Update) → Within Keyed x → length (lineBytes x) ≤ 20
+line-bound (Step e) w = omega (arith, step-size e, most (e .from) (omega (arith, w .0)), most (e .to) (omega (arith, w .1)), most (e .key) (omega (arith, w .2)))
+line-bound (Terminal u) w = omega (arith, terminal-size u, most u (omega arith))
+line-bound (Close u) w = omega (arith, close-size u, most u (omega arith))
 
-pub marking-within : (k : Mark) (s : ℕ) → s ≤ maxValue → Within (marking k s)
+pub marking-within : (k : Mark) (s : ℕ) → s ≤ maxValue → Within Keyed (marking k s)
 marking-within ForTerminal s h = h
 marking-within ForClose s h = h
 
@@ -73,10 +75,10 @@ pub no-line : (k : Mark) (b s : ℕ) → hasMark k b ≡ false → bytesOf (mark
 unfolding bytesOf
 no-line k b s e = rw e refl
 
-pub mark-bound : (k : Mark) (b s : ℕ) → s ≤ maxValue → length (bytesOf (markLine k b s)) ≤ 14
+pub mark-bound : (k : Mark) (b s : ℕ) → s ≤ maxValue → length (bytesOf (markLine k b s)) ≤ 20
 mark-bound k b s h = by (hasMark k b) refl
   where
-    by : (t : Bool) → hasMark k b ≡ t → length (bytesOf (markLine k b s)) ≤ 14
+    by : (t : Bool) → hasMark k b ≡ t → length (bytesOf (markLine k b s)) ≤ 20
     by true e = rw (line-size k b s e) (line-bound (marking k s) (marking-within k s h))
     by false e = rw (no-line k b s e) (omega arith)
 
@@ -102,21 +104,21 @@ module _ (test : ℕ → Bool) (update : ℕ → Update) where
       at (no d) z ih = omega (arith, ih (omega arith))
 
 -- The record is its four parts, one behind the other.
-pub parts : (n m : ℕ) (marks from to : List ℕ) → recordOf n m marks from to ≡ ((namesBytes ++ bytesOf (markedLines ForTerminal n marks)) ++ bytesOf (stepLines m from to)) ++ bytesOf (markedLines ForClose n marks)
+pub parts : (n m : ℕ) (marks from to key : List ℕ) → recordOf n m marks from to key ≡ ((namesBytes ++ bytesOf (markedLines ForTerminal n marks)) ++ bytesOf (stepLines m from to key)) ++ bytesOf (markedLines ForClose n marks)
 unfolding recordOf writtenUpdates
-parts n m marks from to =
+parts n m marks from to key =
     ap (λ (l : List ℕ). namesBytes ++ l)
-    (bytes-append (markedLines ForTerminal n marks) (stepLines m from to ++ markedLines ForClose n marks) ∙
-    ap (λ (l : List ℕ). bytesOf (markedLines ForTerminal n marks) ++ l) (bytes-append (stepLines m from to) (markedLines ForClose n marks))) ∙
-    regroup namesBytes (bytesOf (markedLines ForTerminal n marks)) (bytesOf (stepLines m from to)) (bytesOf (markedLines ForClose n marks))
+    (bytes-append (markedLines ForTerminal n marks) (stepLines m from to key ++ markedLines ForClose n marks) ∙
+    ap (λ (l : List ℕ). bytesOf (markedLines ForTerminal n marks) ++ l) (bytes-append (stepLines m from to key) (markedLines ForClose n marks))) ∙
+    regroup namesBytes (bytesOf (markedLines ForTerminal n marks)) (bytesOf (stepLines m from to key)) (bytesOf (markedLines ForClose n marks))
   where
     regroup : (a b c d : List ℕ) → a ++ (b ++ (c ++ d)) ≡ ((a ++ b) ++ c) ++ d
     regroup a b c d = sym (append-assoc a b (c ++ d)) ∙ sym (append-assoc (a ++ b) c d)
 
-pub record-size : (n m : ℕ) (marks from to : List ℕ) → length (recordOf n m marks from to) ≡ 13 + length (bytesOf (markedLines ForTerminal n marks)) + length (bytesOf (stepLines m from to)) + length (bytesOf (markedLines ForClose n marks))
-record-size n m marks from to =
+pub record-size : (n m : ℕ) (marks from to key : List ℕ) → length (recordOf n m marks from to key) ≡ 17 + length (bytesOf (markedLines ForTerminal n marks)) + length (bytesOf (stepLines m from to key)) + length (bytesOf (markedLines ForClose n marks))
+record-size n m marks from to key =
     let a = namesBytes in
     let b = bytesOf (markedLines ForTerminal n marks) in
-    let c = bytesOf (stepLines m from to) in
+    let c = bytesOf (stepLines m from to key) in
     let d = bytesOf (markedLines ForClose n marks) in
-    omega (arith, ap length (parts n m marks from to), length-append ((a ++ b) ++ c) d, length-append (a ++ b) c, length-append a b)
+    omega (arith, ap length (parts n m marks from to key), length-append ((a ++ b) ++ c) d, length-append (a ++ b) c, length-append a b)

@@ -15,12 +15,13 @@ use Rattle.gid.specs.declared.Update.the-variants.{Step, Terminal, Close}
 use Rattle.gid.specs.Updates.{edge}
 use Rattle.gid.specs.Histories.{History, Has, IsClosed, MayFollow, Legal, following, listed}
 use Rattle.gid.proofs.Decide.{Decides}
+use Rattle.gid.proofs.Listing.{has-listed, listed-has}
 use Rattle.gid.proofs.Tests.{decides-terminal, decides-closed, step-close, terminal-close}
 use Rattle.tables.specs.declared.Graph.{Graph}
 use Rattle.tables.specs.Tables.{Tables}
 use Rattle.tables.specs.Fitting.{marksOf, Consistent}
 use Rattle.tables.proofs.Bits.{marks-bits}
-use Rattle.tables.proofs.Listed.{lists-of, arcs-listed, step-in-list, list-has-step}
+use Rattle.tables.proofs.Listed.{listed-at}
 use Rattle.writer.specs.declared.marking.Mark.{Mark}
 use Rattle.writer.specs.declared.marking.Mark.the-variants.{Terminal as ForTerminal, Close as ForClose}
 use Rattle.writer.specs.Order.{hasMark, marking, inOrder, isMarked, markedLines, edgeAt, stepAt, stepLines, writtenUpdates}
@@ -78,12 +79,12 @@ module _ (test : ℕ → Bool) (update : ℕ → Update) where
       at true i = (i, p n)
       at false i = i
 
--- The first m steps of two lists.
-firsts : ℕ → List ℕ → List ℕ → List Edge
-firsts zero from to = []
-firsts (suc m) from to = firsts m from to ++ (edgeAt from to m ∷ [])
+-- The first m steps of three lists.
+firsts : ℕ → (from to key : List ℕ) → List Edge
+firsts zero from to key = []
+firsts (suc m) from to key = firsts m from to key ++ (edgeAt from to key m ∷ [])
 
-module _ (marks from to : List ℕ) where
+module _ (marks from to key : List ℕ) where
   -- A mark lists no step,
   listed-mark : (k : Mark) (h : History) (s : ℕ) → listed (marking k s ∷ h) ≡ listed h
   unfolding listed
@@ -100,39 +101,39 @@ module _ (marks from to : List ℕ) where
       at false = refl
 
   -- and the steps are listed one behind the other.
-  listed-steps : (m : ℕ) (h : History) → listed (following h (stepLines m from to)) ≡ listed h ++ firsts m from to
+  listed-steps : (m : ℕ) (h : History) → listed (following h (stepLines m from to key)) ≡ listed h ++ firsts m from to key
   unfolding inOrder firsts listed
   listed-steps zero h = sym (append-nil (listed h))
   listed-steps (suc m) h =
-      rw (following-append h (stepLines m from to) (stepAt from to m ∷ []), listed-steps m h) (append-assoc (listed h) (firsts m from to) (edgeAt from to m ∷ []))
+      rw (following-append h (stepLines m from to key) (stepAt from to key m ∷ []), listed-steps m h) (append-assoc (listed h) (firsts m from to key) (edgeAt from to key m ∷ []))
 
-module _ (n m : ℕ) (marks from to : List ℕ) where
+module _ (n m : ℕ) (marks from to key : List ℕ) where
   abbrev terminals : History
   terminals = following [] (markedLines ForTerminal n marks)
 
   abbrev stepped : History
-  stepped = following terminals (stepLines m from to)
+  stepped = following terminals (stepLines m from to key)
 
-  parts-follow : following [] (writtenUpdates n m marks from to) ≡ following stepped (markedLines ForClose n marks)
+  parts-follow : following [] (writtenUpdates n m marks from to key) ≡ following stepped (markedLines ForClose n marks)
   unfolding writtenUpdates
   parts-follow =
-      following-append [] (markedLines ForTerminal n marks) (stepLines m from to ++ markedLines ForClose n marks) ∙
-      following-append terminals (stepLines m from to) (markedLines ForClose n marks)
+      following-append [] (markedLines ForTerminal n marks) (stepLines m from to key ++ markedLines ForClose n marks) ∙
+      following-append terminals (stepLines m from to key) (markedLines ForClose n marks)
 
   -- The steps of the written updates are the listed ones, in list order.
-  written-listed : listed (following [] (writtenUpdates n m marks from to)) ≡ firsts m from to
+  written-listed : listed (following [] (writtenUpdates n m marks from to key)) ≡ firsts m from to key
   unfolding listed
   written-listed =
-      rw (parts-follow, listed-marks marks from to ForClose n stepped, listed-steps marks from to m terminals, listed-marks marks from to ForTerminal n [])
+      rw (parts-follow, listed-marks marks from to key ForClose n stepped, listed-steps marks from to key m terminals, listed-marks marks from to key ForTerminal n [])
 
   -- Terminal marks and steps come before every close.
-  pub written-legal : Legal (following [] (writtenUpdates n m marks from to))
+  pub written-legal : Legal (following [] (writtenUpdates n m marks from to key))
   written-legal =
       rw parts-follow
       (order-legal (isMarked ForClose marks) Close stepped n
-      (order-legal (λ p. true) (stepAt from to) terminals m
+      (order-legal (λ p. true) (stepAt from to key) terminals m
       (order-legal (isMarked ForTerminal marks) Terminal [] n tt (λ i q. unmarked i q))
-      (λ i q. ⊎-elim (unmarked n) (λ o. step-close (edgeAt from to (o .0)) (getD from i 0) (sym (o .2))) (order-closed (λ p. true) (stepAt from to) i q)))
+      (λ i q. ⊎-elim (unmarked n) (λ o. step-close (edgeAt from to key (o .0)) (getD from i 0) (sym (o .2))) (order-closed (λ p. true) (stepAt from to key) i q)))
       (λ i. tt))
     where
       unmarked : (i : ℕ) {s : ℕ} → IsClosed (following [] (markedLines ForTerminal i marks)) s → ⊥
@@ -144,7 +145,7 @@ decides-mark ForClose h s = rw (marks-bits h s .2) (decides-closed h s)
 
 -- The updates of the record of some tables.
 abbrev pub writtenOf : Graph → Tables → List Update
-writtenOf g t = writtenUpdates (g .n) (g .steps) (t .marks) (t .from) (t .to)
+writtenOf g t = writtenUpdates (g .n) (g .steps) (t .marks) (t .from) (t .to) (t .key)
 
 module _ {h : History} {g : Graph} {t : Tables} (c : Consistent h g t) where
   marked-had : (k : Mark) {x : Update} → List·Memᴰ x (markedLines k (g .n) (t .marks)) → Has h x
@@ -155,42 +156,42 @@ module _ {h : History} {g : Graph} {t : Tables} (c : Consistent h g t) where
   had-marked : (k : Mark) (s : ℕ) → s < g .n → Has h (marking k s) → List·Memᴰ (marking k s) (markedLines k (g .n) (t .marks))
   had-marked k s r m = order-in (isMarked k (t .marks)) (marking k) (g .n) s r (ap (hasMark k) (c .marks s r) ∙ decides-mark k h s .complete m)
 
-  steps-had : {x : Update} → List·Memᴰ x (stepLines (g .steps) (t .from) (t .to)) → Has h x
+  steps-had : {x : Update} → List·Memᴰ x (stepLines (g .steps) (t .from) (t .to) (t .key)) → Has h x
   steps-had m =
-      let o = order-of (λ p. true) (stepAt (t .from) (t .to)) (g .steps) m in
-      rw (o .3) (list-has-step (lists-of c) (o .1, refl, refl))
+      let o = order-of (λ p. true) (stepAt (t .from) (t .to) (t .key)) (g .steps) m in
+      rw (o .3, listed-at c (o .0) (o .1)) (listed-has h (omega (arith, o .1, c .steps)))
 
   -- The written updates are the history's, and no others.
   pub written-had : {x : Update} → List·Memᴰ x (writtenOf g t) → Has h x
   unfolding writtenUpdates
   written-had m =
       ⊎-elim (marked-had ForTerminal)
-      (λ q. ⊎-elim steps-had (marked-had ForClose) (List·Memᴰ·append-cases (stepLines (g .steps) (t .from) (t .to)) q))
+      (λ q. ⊎-elim steps-had (marked-had ForClose) (List·Memᴰ·append-cases (stepLines (g .steps) (t .from) (t .to) (t .key)) q))
       (List·Memᴰ·append-cases (markedLines ForTerminal (g .n) (t .marks)) m)
 
   pub had-written : (x : Update) → Has h x → List·Memᴰ x (writtenOf g t)
   unfolding writtenUpdates
   had-written (Step d) m =
-      let q = step-in-list (lists-of c) (d .from) (d .to) m in
-      let e : stepAt (t .from) (t .to) (q .0) ≡ Step d = rw (q .1 .1, q .1 .2) in
+      let q = has-listed h m in
+      let r : q .0 < g .steps = omega (arith, q .1, c .steps) in
+      let e : stepAt (t .from) (t .to) (t .key) (q .0) ≡ Step d = ap Step (listed-at c (q .0) r ∙ q .2) in
       Memᴰ·append-right (markedLines ForTerminal (g .n) (t .marks))
-      (Memᴰ·append-left (markedLines ForClose (g .n) (t .marks)) (rw e at (order-in (λ p. true) (stepAt (t .from) (t .to)) (g .steps) (q .0) (q .1 .0) refl)))
+      (Memᴰ·append-left (markedLines ForClose (g .n) (t .marks)) (rw e at (order-in (λ p. true) (stepAt (t .from) (t .to) (t .key)) (g .steps) (q .0) r refl)))
   had-written (Terminal u) m =
-      Memᴰ·append-left (stepLines (g .steps) (t .from) (t .to) ++ markedLines ForClose (g .n) (t .marks)) (had-marked ForTerminal u (c .inRange u (Terminal u, m, refl)) m)
+      Memᴰ·append-left (stepLines (g .steps) (t .from) (t .to) (t .key) ++ markedLines ForClose (g .n) (t .marks)) (had-marked ForTerminal u (c .inRange u (Terminal u, m, refl)) m)
   had-written (Close u) m =
       Memᴰ·append-right (markedLines ForTerminal (g .n) (t .marks))
-      (Memᴰ·append-right (stepLines (g .steps) (t .from) (t .to)) (had-marked ForClose u (c .inRange u (Close u, m, refl)) m))
+      (Memᴰ·append-right (stepLines (g .steps) (t .from) (t .to) (t .key)) (had-marked ForClose u (c .inRange u (Close u, m, refl)) m))
 
   -- The first m entries of the tables' lists are the first m steps of the history.
-  firsts-take : (m : ℕ) → m ≤ g .steps → firsts m (t .from) (t .to) ≡ take m (listed h)
+  firsts-take : (m : ℕ) → m ≤ g .steps → firsts m (t .from) (t .to) (t .key) ≡ take m (listed h)
   unfolding firsts
   firsts-take zero k = refl
   firsts-take (suc m) k =
-      let a = arcs-listed (lists-of c) (getD (t .from) m 0) m (getD (t .to) m 0) .0 (omega arith, refl, refl) in
-      rw (firsts-take m (omega arith), take-suc (listed h) m (edge 0 0) (a .0), a .1)
+      rw (firsts-take m (omega arith), take-suc (listed h) m (edge 0 0 0) (omega (arith, c .steps)), listed-at c m (omega arith))
 
   -- The steps are the history's, in their order.
   pub same-list : listed (following [] (writtenOf g t)) ≡ listed h
   same-list =
-      written-listed (g .n) (g .steps) (t .marks) (t .from) (t .to) ∙ firsts-take (g .steps) (omega arith) ∙
+      written-listed (g .n) (g .steps) (t .marks) (t .from) (t .to) (t .key) ∙ firsts-take (g .steps) (omega arith) ∙
       ap (λ (i : ℕ). take i (listed h)) (c .steps) ∙ take-length (listed h)

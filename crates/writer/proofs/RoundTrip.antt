@@ -1,4 +1,4 @@
--- The round trip: "For fitting tables, reading that record with the same limit gives the same marks, steps and statuses, and unseen from n on."
+-- The round trip: "For fitting tables, reading that record with the same limit gives the same marks, steps and statuses, and unseen from n on." With the same keys (document 02, #101).
 -- Assumes nothing.
 use mathlib.Core.Path.{_≡_, refl, sym, _∙_, ap}
 use mathlib.Core.Logic.{inl, inr, ⊎-elim}
@@ -10,16 +10,15 @@ use lib.ListN.{length, getD, take, drop}
 use Rattle.gid.specs.declared.Edge.{Edge}
 use Rattle.gid.specs.declared.Update.{Update}
 use Rattle.gid.specs.declared.Update.the-variants.{Step, Terminal, Close}
-use Rattle.gid.specs.Histories.{History, IsNamed, following, listed}
+use Rattle.gid.specs.Histories.{History, Has, IsNamed, following, listed}
 use Rattle.gid.specs.Statuses.{status}
 use Rattle.gid.specs.Outcomes.{accepted}
 use Rattle.gid.proofs.Paths.{Inside}
 use Rattle.gid.proofs.Statuses.{status-unseen}
 use Rattle.tables.specs.declared.Graph.{Graph}
 use Rattle.tables.specs.Tables.{Tables}
-use Rattle.tables.specs.Fitting.{sources, targets, marksOf, Consistent, Fits}
+use Rattle.tables.specs.Fitting.{sources, targets, keys, marksOf, Consistent, Fits}
 use Rattle.tables.proofs.Refusing.{Lent, lent-leaves}
-use Rattle.record.specs.Text.{Within}
 use Rattle.record.specs.Items.{items}
 use Rattle.reader.specs.declared.ReadAnswer.{ReadAnswer}
 use Rattle.reader.specs.Opening.{readerStates, readerGraph, openRefusal}
@@ -30,19 +29,19 @@ use Rattle.writer.specs.Answering.{writtenOutcome, theRecord, allLong, W
 use Rattle.writer.specs.Rereading.{ReadBack}
 use Rattle.writer.proofs.Deciding.{ended}
 use Rattle.writer.proofs.Alike.{same-marks, same-status, no-marks}
-use Rattle.writer.proofs.Splits.{items-record}
-use Rattle.writer.proofs.Accepting.{StatesBelow, lines-accepted}
+use Rattle.writer.proofs.Splits.{Writable, items-record}
+use Rattle.writer.proofs.Accepting.{InBounds, KeyFits, lines-accepted}
 use Rattle.writer.proofs.Members.{writtenOf, follows, followed, written-legal, written-had, had-written, same-list}
 
 -- values that a record can hold
-within : (n : ℕ) (x : Update) → n ≤ readerStates → StatesBelow n x → Within x
-within n (Step e) few r = (omega (arith, r (e .from) (inl refl)), omega (arith, r (e .to) (inr refl)))
-within n (Terminal u) few r = omega (arith, r u refl)
-within n (Close u) few r = omega (arith, r u refl)
+within : (n : ℕ) (x : Update) → n ≤ readerStates → InBounds n x → Writable x
+within n (Step e) few (r, k) = ((omega (arith, r (e .from) (inl refl)), omega (arith, r (e .to) (inr refl)), omega arith), omega arith)
+within n (Terminal u) few (r, k) = (omega (arith, r u refl), tt)
+within n (Close u) few (r, k) = (omega (arith, r u refl), tt)
 
-module _ {h : History} {g : Graph} {t : Tables} (c : Consistent h g t) (l : Lent g (allLong g (t .marks) (t .from) (t .to))) where
+module _ {h : History} {g : Graph} {t : Tables} (c : Consistent h g t) (l : Lent g (allLong g (t .marks) (t .from) (t .to) (t .key))) where
   abbrev bytes : List ℕ
-  bytes = theRecord g (t .marks) (t .from) (t .to)
+  bytes = theRecord g (t .marks) (t .from) (t .to) (t .key)
 
   -- The written updates are those of h.
   to : Inside (following [] (writtenOf g t)) h
@@ -51,8 +50,13 @@ module _ {h : History} {g : Graph} {t : Tables} (c : Consistent h g t) (l : Lent
   of : Inside h (following [] (writtenOf g t))
   of x m = follows [] (writtenOf g t) (had-written c x m)
 
-  range : (x : Update) → List·Memᴰ x (writtenOf g t) → StatesBelow (g .n) x
-  range x m s q = c .inRange s (x, written-had c m, q)
+  range : (x : Update) → List·Memᴰ x (writtenOf g t) → InBounds (g .n) x
+  range x m = (λ s q. c .inRange s (x, written-had c m, q), key x (written-had c m))
+    where
+      key : (y : Update) → Has h y → KeyFits y
+      key (Step e) q = c .keysInRange e q
+      key (Terminal u) q = tt
+      key (Close u) q = tt
 
   count : length (listed (following [] (writtenOf g t))) ≡ g .steps
   count = ap length (same-list c) ∙ sym (c .steps)
@@ -60,8 +64,8 @@ module _ {h : History} {g : Graph} {t : Tables} (c : Consistent h g t) (l : Lent
   -- Every line is accepted: what is read is the written updates.
   read : (firstRefusal (readerGraph (g .limit)) [] (items bytes) ≡ none) × (historyOf (g .limit) bytes ≡ following [] (writtenOf g t))
   read =
-      rw (items-record (g .n) (g .steps) (t .marks) (t .from) (t .to) (l .few-states) (omega (arith, l .room, l .low-limit)) (λ x m. within (g .n) x (l .few-states) (range x m)))
-      (lines-accepted (g .limit) (l .some-limit) (l .low-limit) 2 [] (writtenOf g t) (written-legal (g .n) (g .steps) (t .marks) (t .from) (t .to)) (λ x m s q. omega (arith, range x m s q, l .few-states)) (omega (arith, count, l .room)))
+      rw (items-record (g .n) (g .steps) (t .marks) (t .from) (t .to) (t .key) (l .few-states) (omega (arith, l .room, l .low-limit)) (λ x m. within (g .n) x (l .few-states) (range x m)))
+      (lines-accepted (g .limit) (l .some-limit) (l .low-limit) 2 [] (writtenOf g t) (written-legal (g .n) (g .steps) (t .marks) (t .from) (t .to) (t .key)) (λ x m. let r = range x m in (λ s q. omega (arith, r .0 s q, l .few-states), r .1)) (omega (arith, count, l .room)))
 
   read-same : {t₀ t′ : Tables} {r : ReadAnswer} → openRefusal (g .limit) t₀ ≡ none → Reads (g .limit) bytes t₀ t′ r → ReadBack g t t′ r
   read-same {t₀} {t′} {r} o q =
@@ -78,13 +82,14 @@ module _ {h : History} {g : Graph} {t : Tables} (c : Consistent h g t) (l : Lent
               marks = λ u p. marked u (omega (arith, l .few-states)) ∙ sym (c .marks u p);
               from = ap (λ (i : ℕ). take i (t′ .from)) (sym k) ∙ s .from ∙ ap sources e ∙ ap (map (λ (x : Edge). x .from)) (same-list c) ∙ sym (c .from);
               to = ap (λ (i : ℕ). take i (t′ .to)) (sym k) ∙ s .to ∙ ap targets e ∙ ap (map (λ (x : Edge). x .to)) (same-list c) ∙ sym (c .to);
+              key = ap (λ (i : ℕ). take i (t′ .key)) (sym k) ∙ s .key ∙ ap keys e ∙ ap (map (λ (x : Edge). x .key)) (same-list c) ∙ sym (c .key);
               status = λ u p. judged u (omega (arith, l .few-states)) ∙ sym (c .status u p);
               unseen = λ u p b. (judged u b ∙ status-unseen h u .1 (unnamed u p), marked u b ∙ no-marks h u (unnamed u p));
             };
       }
 
 -- What `write` wrote of tables that fit, from the starting place up to its answer, read by `reader::read` with the same limit into any tables that are long enough.
-pub read-back-same : (g : Graph) (t : Tables) → Fits g t → {buf buf′ : List ℕ} {at end : ℕ} {w : Written} → Writes g (t .marks) (t .from) (t .to) buf at buf′ w → writtenOutcome w ≡ accepted end → {t₀ t′ : Tables} {r : ReadAnswer} → openRefusal (g .limit) t₀ ≡ none → Reads (g .limit) (take (end - at) (drop at buf′)) t₀ t′ r → ReadBack g t t′ r
+pub read-back-same : (g : Graph) (t : Tables) → Fits g t → {buf buf′ : List ℕ} {at end : ℕ} {w : Written} → Writes g (t .marks) (t .from) (t .to) (t .key) buf at buf′ w → writtenOutcome w ≡ accepted end → {t₀ t′ : Tables} {r : ReadAnswer} → openRefusal (g .limit) t₀ ≡ none → Reads (g .limit) (take (end - at) (drop at buf′)) t₀ t′ r → ReadBack g t t′ r
 read-back-same g t f w e o q =
     let d = ended w e in
-    read-same (f .2) (lent-leaves g (allLong g (t .marks) (t .from) (t .to)) (d .0)) o (rw (d .1) at q)
+    read-same (f .2) (lent-leaves g (allLong g (t .marks) (t .from) (t .to) (t .key)) (d .0)) o (rw (d .1) at q)

@@ -3,6 +3,7 @@
 use mathlib.Core.Path.{_≡_, refl, _∙_, ap}
 use mathlib.Core.Bool.{Bool, true, false, cond}
 use mathlib.Core.List.{List, [], _∷_, _++_, map, append-assoc, List·Memᴰ, List·Memᴰ·head, List·Memᴰ·tail}
+use mathlib.Core.Option.{Option, some, none}
 use Prim.Native.Nat.{ℕ, zero, suc, _+_, _/_, _%_, _≤_, _<_}
 use native.Mathlib.Omega.{arith}
 use native.Mathlib.Decide.{decLt}
@@ -13,11 +14,12 @@ use Rattle.gid.specs.declared.Update.the-variants.{Step, Terminal, Close}
 use Rattle.gid.specs.Refusals.{maxStates, maxSteps}
 use Rattle.record.specs.declared.splitter.Item.{Item}
 use Rattle.record.specs.declared.splitter.Item.the-variants.{Update as Read}
-use Rattle.record.specs.Text.{decimal, head, text, names, Within}
+use Rattle.record.specs.declared.line.Form.the-variants.{Keyed}
+use Rattle.record.specs.Text.{decimal, head, field, text, names, Within}
 use Rattle.record.specs.Lines.{lines}
 use Rattle.record.specs.Items.{same, maxLines, further, all, items}
 use Rattle.record.proofs.Decimals.{decimal-digit, decimal-more}
-use Rattle.record.proofs.Reading.{line-back}
+use Rattle.record.proofs.Reading.{Short, text-short, line-back}
 use Rattle.record.proofs.Splitting.{Unbroken, none′, more, lines-break}
 use Rattle.writer.specs.declared.marking.Mark.the-variants.{Terminal as ForTerminal, Close as ForClose}
 use Rattle.writer.specs.Order.{inOrder, isMarked, markedLines, stepAt, stepLines, writtenUpdates, bytesOf, recordOf}
@@ -44,20 +46,27 @@ unbroken-decimal n = unbroken-digits n n (omega arith)
 unbroken-head : (kind from : ℕ) → 10 < kind → Unbroken (head kind from)
 unbroken-head kind from h = byte kind h (byte 32 (omega arith) (unbroken-append (unbroken-decimal from) (byte 32 (omega arith) none′)))
 
-unbroken-text : (x : Update) → Unbroken (text x)
-unbroken-text (Step e) = unbroken-append (unbroken-head 69 (e .from) (omega arith)) (unbroken-decimal (e .to))
-unbroken-text (Terminal u) = unbroken-append (unbroken-head 84 u (omega arith)) (byte 45 (omega arith) none′)
-unbroken-text (Close u) = unbroken-append (unbroken-head 67 u (omega arith)) (byte 45 (omega arith) none′)
+unbroken-field : (v : Option ℕ) → Unbroken (field v)
+unbroken-field none = byte 45 (omega arith) none′
+unbroken-field (some v) = unbroken-decimal v
 
-lines-bytes : (l : List Update) → lines (bytesOf l) ≡ map text l
+unbroken-line : (kind from : ℕ) (to key : Option ℕ) → 10 < kind → Unbroken (head kind from ++ field to ++ (32 ∷ field key))
+unbroken-line kind from to key h = unbroken-append (unbroken-append (unbroken-head kind from h) (unbroken-field to)) (byte 32 (omega arith) (unbroken-field key))
+
+unbroken-text : (x : Update) → Unbroken (text Keyed x)
+unbroken-text (Step e) = unbroken-line 69 (e .from) (some (e .to)) (some (e .key)) (omega arith)
+unbroken-text (Terminal u) = unbroken-line 84 u none none (omega arith)
+unbroken-text (Close u) = unbroken-line 67 u none none (omega arith)
+
+lines-bytes : (l : List Update) → lines (bytesOf l) ≡ map (text Keyed) l
 unfolding bytesOf lines
 lines-bytes [] = refl
 lines-bytes (x ∷ l) =
-    ap lines (append-assoc (text x) (10 ∷ []) (bytesOf l)) ∙
+    ap lines (append-assoc (text Keyed x) (10 ∷ []) (bytesOf l)) ∙
     lines-break (bytesOf l) (unbroken-text x) ∙
-    ap (λ (ls : List (List ℕ)). text x ∷ ls) (lines-bytes l)
+    ap (λ (ls : List (List ℕ)). text Keyed x ∷ ls) (lines-bytes l)
 
-names-line : (s : List ℕ) → lines (names ++ (10 ∷ s)) ≡ names ∷ lines s
+names-line : (s : List ℕ) → lines (names Keyed ++ (10 ∷ s)) ≡ names Keyed ∷ lines s
 unfolding lines
 names-line s = refl
 
@@ -70,29 +79,33 @@ order-count (suc n) test update = rw length-append (by (test n) (order-count n t
     by true h = omega arith
     by false h = omega arith
 
-module _ (n m : ℕ) (marks from to : List ℕ) where
-  updates-count : length (writtenUpdates n m marks from to) ≤ n + (m + n)
+module _ (n m : ℕ) (marks from to key : List ℕ) where
+  updates-count : length (writtenUpdates n m marks from to key) ≤ n + (m + n)
   unfolding writtenUpdates
   updates-count =
       let a = markedLines ForTerminal n marks in
-      let b = stepLines m from to in
+      let b = stepLines m from to key in
       let c = markedLines ForClose n marks in
-      omega (arith, length-append a (b ++ c), length-append b c, order-count n (isMarked ForTerminal marks) Terminal, order-count m (λ p. true) (stepAt from to), order-count n (isMarked ForClose marks) Close)
+      omega (arith, length-append a (b ++ c), length-append b c, order-count n (isMarked ForTerminal marks) Terminal, order-count m (λ p. true) (stepAt from to key), order-count n (isMarked ForClose marks) Close)
 
 -- Lines that are updates, from a line number on.
 unfoldable pub numbered : ℕ → List Update → List Item
 numbered k [] = []
 numbered k (x ∷ l) = Read (record { line = k; update = x }) ∷ numbered (k + 1) l
 
-further-numbered : (l : List Update) (k : ℕ) → ((x : Update) → List·Memᴰ x l → Within x) → k + length l ≤ maxLines + 1 → further k (map text l) ≡ numbered k l
+-- A line that can be read back.
+abbrev pub Writable : Update → Type 0
+Writable x = Within Keyed x × Short Keyed x
+
+further-numbered : (l : List Update) (k : ℕ) → ((x : Update) → List·Memᴰ x l → Writable x) → k + length l ≤ maxLines + 1 → further Keyed k (map (text Keyed) l) ≡ numbered k l
 unfolding further numbered
 further-numbered [] k w h = refl
 further-numbered (x ∷ l) k w h =
-    rw (le-leb k maxLines (omega arith), line-back x (w x (List·Memᴰ·head refl)), further-numbered l (k + 1) (λ y m. w y (List·Memᴰ·tail m)) (omega arith))
+    rw (le-leb k maxLines (omega arith), let r = w x (List·Memᴰ·head refl) in line-back Keyed x (r .0) (text-short Keyed x (r .0) (r .1)), further-numbered l (k + 1) (λ y m. w y (List·Memᴰ·tail m)) (omega arith))
 
 -- The record's items: the written updates, from line 2 on. The longest record has 12,289 lines of 65,535.
-pub items-record : (n m : ℕ) (marks from to : List ℕ) → n ≤ maxStates → m ≤ maxSteps → ((x : Update) → List·Memᴰ x (writtenUpdates n m marks from to) → Within x) → items (recordOf n m marks from to) ≡ numbered 2 (writtenUpdates n m marks from to)
+pub items-record : (n m : ℕ) (marks from to key : List ℕ) → n ≤ maxStates → m ≤ maxSteps → ((x : Update) → List·Memᴰ x (writtenUpdates n m marks from to key) → Writable x) → items (recordOf n m marks from to key) ≡ numbered 2 (writtenUpdates n m marks from to key)
 unfolding items all recordOf same
-items-record n m marks from to few low w =
-    rw (names-line (bytesOf (writtenUpdates n m marks from to)), lines-bytes (writtenUpdates n m marks from to))
-    (further-numbered (writtenUpdates n m marks from to) 2 w (omega (arith, updates-count n m marks from to)))
+items-record n m marks from to key few low w =
+    rw (names-line (bytesOf (writtenUpdates n m marks from to key)), lines-bytes (writtenUpdates n m marks from to key))
+    (further-numbered (writtenUpdates n m marks from to key) 2 w (omega (arith, updates-count n m marks from to key)))

@@ -22,20 +22,20 @@ writtenOutcome (End place) = accepted place
 writtenOutcome (Refused k) = refused k
 
 -- "Test 3 covers the tables that the call in hand is lent": the marks and the step list.
-abbrev pub writerNeeds : Graph → ℕ → ℕ → ℕ → List Needed
-writerNeeds g marks from to =
-    record { have = marks; need = g .n } ∷ record { have = from; need = g .limit } ∷ record { have = to; need = g .limit } ∷ []
+abbrev pub writerNeeds : Graph → (marks from to key : ℕ) → List Needed
+writerNeeds g marks from to key =
+    record { have = marks; need = g .n } ∷ record { have = from; need = g .limit } ∷ record { have = to; need = g .limit } ∷ record { have = key; need = g .limit } ∷ []
 
 -- "13: the writer's buffer is too short from its starting place, or that place is past its end."
 abbrev pub short : List ℕ → ℕ → ℕ → Bool
 short buf at size = ltb (length buf) at || ltb (length buf - at) size
 
-module _ (g : Graph) (marks from to : List ℕ) where
+module _ (g : Graph) (marks from to key : List ℕ) where
   abbrev pub theRecord : List ℕ
-  theRecord = recordOf (g .n) (g .steps) marks from to
+  theRecord = recordOf (g .n) (g .steps) marks from to key
 
   abbrev pub allLong : Bool
-  allLong = enough (writerNeeds g (length marks) (length from) (length to))
+  allLong = enough (writerNeeds g (length marks) (length from) (length to) (length key))
 
   module _ (buf : List ℕ) (at : ℕ) where
     -- The numbers 1 to 4 and 13, by rising number.
@@ -55,6 +55,6 @@ module _ (g : Graph) (marks from to : List ℕ) where
     bufferAfter = orFilled (first writeRules)
 
 -- The answer and the buffer after the call. The tables are lent for reading alone.
-pub record Writes (g : Graph) (marks from to buf : List ℕ) (at : ℕ) (buf′ : List ℕ) (r : Written) : Type 0 where
-  pub answer : writtenOutcome r ≡ writeAnswer g marks from to buf at
-  pub buffer : buf′ ≡ bufferAfter g marks from to buf at
+pub record Writes (g : Graph) (marks from to key buf : List ℕ) (at : ℕ) (buf′ : List ℕ) (r : Written) : Type 0 where
+  pub answer : writtenOutcome r ≡ writeAnswer g marks from to key buf at
+  pub buffer : buf′ ≡ bufferAfter g marks from to key buf at

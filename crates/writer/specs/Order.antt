@@ -1,4 +1,4 @@
--- The record of some tables: "names line, T lines by rising state, steps in list order, C lines by rising state, each line ended by a newline". It "uses only the marks 2 and 4 and the listed steps, on tables that do not fit too".
+-- The record of some tables: "names line, T lines by rising state, steps in list order, C lines by rising state, each line ended by a newline". It "uses only the marks 2 and 4 and the listed steps, on tables that do not fit too", with the byte of each step's key, and "the new line" of names (document 02, #101).
 -- Assumes nothing.
 use mathlib.Core.Bool.{Bool, true, cond}
 use mathlib.Core.List.{List, [], _∷_, _++_}
@@ -9,6 +9,7 @@ use Rattle.gid.specs.declared.Update.{Update}
 use Rattle.gid.specs.declared.Update.the-variants.{Step, Terminal, Close}
 use Rattle.gid.specs.Updates.{edge}
 use Rattle.tables.specs.Marks.{hasTerminal, hasClosed}
+use Rattle.record.specs.declared.line.Form.the-variants.{Keyed}
 use Rattle.record.specs.Text.{names, text}
 use Rattle.writer.specs.declared.marking.Mark.{Mark}
 use Rattle.writer.specs.declared.marking.Mark.the-variants.{Terminal as ForTerminal, Close as ForClose}
@@ -36,30 +37,30 @@ abbrev pub markedLines : Mark → ℕ → List ℕ → List Update
 markedLines k n marks = inOrder n (isMarked k marks) (marking k)
 
 -- The first m listed steps, "in list order".
-abbrev pub edgeAt : List ℕ → List ℕ → ℕ → Edge
-edgeAt from to p = edge (getD from p 0) (getD to p 0)
+abbrev pub edgeAt : (from to key : List ℕ) → ℕ → Edge
+edgeAt from to key p = edge (getD from p 0) (getD to p 0) (getD key p 0)
 
-abbrev pub stepAt : List ℕ → List ℕ → ℕ → Update
-stepAt from to p = Step (edgeAt from to p)
+abbrev pub stepAt : (from to key : List ℕ) → ℕ → Update
+stepAt from to key p = Step (edgeAt from to key p)
 
-abbrev pub stepLines : ℕ → List ℕ → List ℕ → List Update
-stepLines m from to = inOrder m (λ p. true) (stepAt from to)
+abbrev pub stepLines : ℕ → (from to key : List ℕ) → List Update
+stepLines m from to key = inOrder m (λ p. true) (stepAt from to key)
 
 -- The updates of the record of n states and m steps.
-unfoldable pub writtenUpdates : ℕ → ℕ → List ℕ → List ℕ → List ℕ → List Update
-writtenUpdates n m marks from to = markedLines ForTerminal n marks ++ (stepLines m from to ++ markedLines ForClose n marks)
+unfoldable pub writtenUpdates : ℕ → ℕ → (marks from to key : List ℕ) → List Update
+writtenUpdates n m marks from to key = markedLines ForTerminal n marks ++ (stepLines m from to key ++ markedLines ForClose n marks)
 
 -- "each line ended by a newline"
 abbrev pub lineBytes : Update → List ℕ
-lineBytes x = text x ++ (10 ∷ [])
+lineBytes x = text Keyed x ++ (10 ∷ [])
 
 unfoldable pub bytesOf : List Update → List ℕ
 bytesOf [] = []
 bytesOf (x ∷ l) = lineBytes x ++ bytesOf l
 
 abbrev pub namesBytes : List ℕ
-namesBytes = names ++ (10 ∷ [])
+namesBytes = names Keyed ++ (10 ∷ [])
 
 -- The record's bytes.
-unfoldable pub recordOf : ℕ → ℕ → List ℕ → List ℕ → List ℕ → List ℕ
-recordOf n m marks from to = namesBytes ++ bytesOf (writtenUpdates n m marks from to)
+unfoldable pub recordOf : ℕ → ℕ → (marks from to key : List ℕ) → List ℕ
+recordOf n m marks from to key = namesBytes ++ bytesOf (writtenUpdates n m marks from to key)

@@ -1,4 +1,4 @@
--- What reading a written record comes to: "For fitting tables, reading that record with the same limit gives the same marks, steps and statuses, and unseen from n on." proofs/RoundTrip.antt proves it (`read-back-same`).
+-- What reading a written record comes to: "For fitting tables, reading that record with the same limit gives the same marks, steps and statuses, and unseen from n on." The keys are the same too. proofs/RoundTrip.antt proves it (`read-back-same`).
 -- Assumes nothing.
 use mathlib.Core.Path.{_≡_}
 use mathlib.Core.Option.{none}
@@ -17,6 +17,7 @@ pub record SameTables (g : Graph) (t t′ : Tables) : Type 0 where
   pub marks : (s : ℕ) → s < g .n → getD (t′ .marks) s 0 ≡ getD (t .marks) s 0
   pub from : take (g .steps) (t′ .from) ≡ take (g .steps) (t .from)
   pub to : take (g .steps) (t′ .to) ≡ take (g .steps) (t .to)
+  pub key : take (g .steps) (t′ .key) ≡ take (g .steps) (t .key)
   pub status : (s : ℕ) → s < g .n → getD (t′ .status) s 0 ≡ getD (t .status) s 0
   pub unseen : (s : ℕ) → g .n ≤ s → s < readerStates → (getD (t′ .status) s 0 ≡ statusUnseen) × (getD (t′ .marks) s 0 ≡ 0)
 

@@ -47,9 +47,9 @@ fn put_marks(buf: &mut [u8], at: usize, mark: Mark, n: usize, marks: &[u8]) -> u
     next
 }
 
-fn put_step(buf: &mut [u8], at: usize, from: u16, to: u16) -> usize
-    requires { ⌜ at + length (lineBytes (Update.Step (edge from to))) ≤ length (now buf) ⌝ }
-    ensures { λ r. ⌜ WroteAt at (lineBytes (Update.Step (edge from to))) (now (buf .entry)) (now (buf .exit)) r ⌝ }
+fn put_step(buf: &mut [u8], at: usize, from: u16, to: u16, key: u8) -> usize
+    requires { ⌜ at + length (lineBytes (Update.Step (edge from to key))) ≤ length (now buf) ⌝ }
+    ensures { λ r. ⌜ WroteAt at (lineBytes (Update.Step (edge from to key))) (now (buf .entry)) (now (buf .exit)) r ⌝ }
 {
     put_line(
         buf,
@@ -58,20 +58,21 @@ fn put_step(buf: &mut [u8], at: usize, from: u16, to: u16) -> usize
             edge: Edge {
                 from: from as usize,
                 to: to as usize,
+                key: key as usize,
             },
         },
     )
 }
 
 // "steps in list order"
-fn put_steps(buf: &mut [u8], at: usize, m: usize, from: &[u16], to: &[u16]) -> usize
-    requires { ⌜ (m ≤ length (now from)) × (m ≤ length (now to)) × (at + length (bytesOf (stepLines m (now from) (now to))) ≤ length (now buf)) ⌝ }
-    ensures { λ r. ⌜ WroteAt at (bytesOf (stepLines m (now (from .entry)) (now (to .entry)))) (now (buf .entry)) (now (buf .exit)) r ⌝ }
+fn put_steps(buf: &mut [u8], at: usize, m: usize, from: &[u16], to: &[u16], key: &[u8]) -> usize
+    requires { ⌜ (m ≤ length (now from)) × (m ≤ length (now to)) × (m ≤ length (now key)) × (at + length (bytesOf (stepLines m (now from) (now to) (now key))) ≤ length (now buf)) ⌝ }
+    ensures { λ r. ⌜ WroteAt at (bytesOf (stepLines m (now (from .entry)) (now (to .entry)) (now (key .entry)))) (now (buf .entry)) (now (buf .exit)) r ⌝ }
 {
     let mut next = at;
     let mut p = 0;
     while p < m {
-        next = put_step(buf, next, from[p], to[p]);
+        next = put_step(buf, next, from[p], to[p], key[p]);
         p += 1;
     }
     next
@@ -86,12 +87,13 @@ pub fn put_record(
     marks: &[u8],
     from: &[u16],
     to: &[u16],
+    key: &[u8],
 ) -> usize
-    requires { ⌜ (n ≤ length (now marks)) × (m ≤ length (now from)) × (m ≤ length (now to)) × (at + length (recordOf n m (now marks) (now from) (now to)) ≤ length (now buf)) ⌝ }
-    ensures { λ r. ⌜ WroteAt at (recordOf n m (now (marks .entry)) (now (from .entry)) (now (to .entry))) (now (buf .entry)) (now (buf .exit)) r ⌝ }
+    requires { ⌜ (n ≤ length (now marks)) × (m ≤ length (now from)) × (m ≤ length (now to)) × (m ≤ length (now key)) × (at + length (recordOf n m (now marks) (now from) (now to) (now key)) ≤ length (now buf)) ⌝ }
+    ensures { λ r. ⌜ WroteAt at (recordOf n m (now (marks .entry)) (now (from .entry)) (now (to .entry)) (now (key .entry))) (now (buf .entry)) (now (buf .exit)) r ⌝ }
 {
-    let terminals = put_bytes_at(buf, at, b"kind from to\n");
+    let terminals = put_bytes_at(buf, at, b"kind from to key\n");
     let steps = put_marks(buf, terminals, Mark::Terminal, n, marks);
-    let closes = put_steps(buf, steps, m, from, to);
+    let closes = put_steps(buf, steps, m, from, to, key);
     put_marks(buf, closes, Mark::Close, n, marks)
 }

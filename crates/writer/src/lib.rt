@@ -26,12 +26,13 @@ pub fn write(
     marks: &[u8],
     from: &[u16],
     to: &[u16],
+    key: &[u8],
     buf: &mut [u8],
     at: usize,
 ) -> Written
-    ensures { λ r. ⌜ Writes graph (now (marks .entry)) (now (from .entry)) (now (to .entry)) (now (buf .entry)) at (now (buf .exit)) r ⌝ }
+    ensures { λ r. ⌜ Writes graph (now (marks .entry)) (now (from .entry)) (now (to .entry)) (now (key .entry)) (now (buf .entry)) at (now (buf .exit)) r ⌝ }
 {
-    let refused = graph.lent(all_long(graph, marks.len(), from.len(), to.len()));
+    let refused = graph.lent(all_long(graph, marks.len(), from.len(), to.len(), key.len()));
     if refused != 0 {
         return Written::Refused(refused);
     }
@@ -40,15 +41,15 @@ pub fn write(
     if buf.len() < at {
         return Written::Refused(SHORT_BUFFER);
     }
-    if buf.len() - at < record_size(n, m, marks, from, to) {
+    if buf.len() - at < record_size(n, m, marks, from, to, key) {
         return Written::Refused(SHORT_BUFFER);
     }
-    Written::End(put_record(buf, at, n, m, marks, from, to))
+    Written::End(put_record(buf, at, n, m, marks, from, to, key))
 }
 
-// Whether the three tables are long enough.
-fn all_long(graph: Graph, marks: usize, from: usize, to: usize) -> bool
-    ensures { λ r. ⌜ r ≡ enough (writerNeeds graph marks from to) ⌝ }
+// Whether the four tables are long enough.
+fn all_long(graph: Graph, marks: usize, from: usize, to: usize, key: usize) -> bool
+    ensures { λ r. ⌜ r ≡ enough (writerNeeds graph marks from to key) ⌝ }
 {
     if marks < graph.n {
         return false;
@@ -56,5 +57,8 @@ fn all_long(graph: Graph, marks: usize, from: usize, to: usize) -> bool
     if from < graph.limit {
         return false;
     }
-    graph.limit <= to
+    if to < graph.limit {
+        return false;
+    }
+    graph.limit <= key
 }

@@ -6,6 +6,7 @@ ghost use Rattle.gid.specs.declared.Update.{Update};
 ghost use Rattle.gid.specs.Updates.{edge};
 ghost use Rattle.gid.specs.Refusals.{maxStates, maxSteps};
 ghost use Rattle.record.specs.Text.{decimal, maxValue, Within};
+ghost use Rattle.record.specs.declared.line.Form.the-variants.{Keyed};
 ghost use Rattle.writer.specs.Order.{markedLines, stepLines, lineBytes, bytesOf, recordOf};
 ghost use Rattle.writer.specs.Sizing.{markLine};
 use crate::marking::Mark;
@@ -36,13 +37,13 @@ fn digits(value: usize) -> usize
 
 // The length of a line, with its newline.
 fn line_size(update: Update) -> usize
-    requires { ⌜ Within update ⌝ }
+    requires { ⌜ Within Keyed update ⌝ }
     ensures { λ r. ⌜ r ≡ length (lineBytes update) ⌝ }
 {
     match update {
-        Update::Step { edge } => digits(edge.from) + digits(edge.to) + 4,
-        Update::Terminal { state } => digits(state) + 5,
-        Update::Close { state } => digits(state) + 5,
+        Update::Step { edge } => digits(edge.from) + digits(edge.to) + digits(edge.key) + 5,
+        Update::Terminal { state } => digits(state) + 7,
+        Update::Close { state } => digits(state) + 7,
     }
 }
 
@@ -60,7 +61,7 @@ fn mark_size(mark: Mark, byte: u8, state: usize) -> usize
 
 fn marks_size(mark: Mark, n: usize, marks: &[u8]) -> usize
     requires { ⌜ (n ≤ length (now marks)) × (n ≤ maxStates) ⌝ }
-    ensures { λ r. ⌜ (r ≡ length (bytesOf (markedLines mark n (now (marks .entry))))) × (r ≤ 14 * n) ⌝ }
+    ensures { λ r. ⌜ (r ≡ length (bytesOf (markedLines mark n (now (marks .entry))))) × (r ≤ 20 * n) ⌝ }
 {
     let mut size: usize = 0;
     let mut s = 0;
@@ -71,37 +72,38 @@ fn marks_size(mark: Mark, n: usize, marks: &[u8]) -> usize
     size
 }
 
-fn step_size(from: u16, to: u16) -> usize
-    ensures { λ r. ⌜ r ≡ length (lineBytes (Update.Step (edge from to))) ⌝ }
+fn step_size(from: u16, to: u16, key: u8) -> usize
+    ensures { λ r. ⌜ r ≡ length (lineBytes (Update.Step (edge from to key))) ⌝ }
 {
     line_size(Update::Step {
         edge: Edge {
             from: from as usize,
             to: to as usize,
+            key: key as usize,
         },
     })
 }
 
-fn steps_size(m: usize, from: &[u16], to: &[u16]) -> usize
-    requires { ⌜ (m ≤ length (now from)) × (m ≤ length (now to)) × (m ≤ maxSteps) ⌝ }
-    ensures { λ r. ⌜ (r ≡ length (bytesOf (stepLines m (now (from .entry)) (now (to .entry))))) × (r ≤ 14 * m) ⌝ }
+fn steps_size(m: usize, from: &[u16], to: &[u16], key: &[u8]) -> usize
+    requires { ⌜ (m ≤ length (now from)) × (m ≤ length (now to)) × (m ≤ length (now key)) × (m ≤ maxSteps) ⌝ }
+    ensures { λ r. ⌜ (r ≡ length (bytesOf (stepLines m (now (from .entry)) (now (to .entry)) (now (key .entry))))) × (r ≤ 20 * m) ⌝ }
 {
     let mut size: usize = 0;
     let mut p = 0;
     while p < m {
-        size += step_size(from[p], to[p]);
+        size += step_size(from[p], to[p], key[p]);
         p += 1;
     }
     size
 }
 
-// The length of the record. Its names line has 13 bytes.
-pub fn record_size(n: usize, m: usize, marks: &[u8], from: &[u16], to: &[u16]) -> usize
-    requires { ⌜ (n ≤ length (now marks)) × (n ≤ maxStates) × (m ≤ length (now from)) × (m ≤ length (now to)) × (m ≤ maxSteps) ⌝ }
-    ensures { λ r. ⌜ r ≡ length (recordOf n m (now (marks .entry)) (now (from .entry)) (now (to .entry))) ⌝ }
+// The length of the record. Its names line has 17 bytes.
+pub fn record_size(n: usize, m: usize, marks: &[u8], from: &[u16], to: &[u16], key: &[u8]) -> usize
+    requires { ⌜ (n ≤ length (now marks)) × (n ≤ maxStates) × (m ≤ length (now from)) × (m ≤ length (now to)) × (m ≤ length (now key)) × (m ≤ maxSteps) ⌝ }
+    ensures { λ r. ⌜ r ≡ length (recordOf n m (now (marks .entry)) (now (from .entry)) (now (to .entry)) (now (key .entry))) ⌝ }
 {
     let terminals = marks_size(Mark::Terminal, n, marks);
-    let steps = steps_size(m, from, to);
+    let steps = steps_size(m, from, to, key);
     let closes = marks_size(Mark::Close, n, marks);
-    13 + terminals + steps + closes
+    17 + terminals + steps + closes
 }

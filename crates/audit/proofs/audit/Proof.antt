@@ -12,12 +12,12 @@ use Rattle.audit.proofs.audit.Tie as tie
 
 -- The start, the tables as they came, and the tests 1 to 4.
 abbrev start : tie.After-lent → tie.Start
-start c = c .before .before .before .before .before .before .before .before .before .before .before .before .before .before
+start c = c .before .before .before .before .before .before .before .before .before .before .before .before .before .before .before
 
 abbrev tables : tie.After-lent → List ℕ → Tables
 tables c news =
     let a = start c .args in
-    tablesOf (a .status .now) (a .marks .now) (a .from .now) (a .to .now) (a .successor .now) news (a .in-head .now) (a .out-head .now) (a .queue .now) (a .visited .now) (a .in-next .now) (a .out-next .now)
+    tablesOf (a .status .now) (a .marks .now) (a .from .now) (a .to .now) (a .key .now) (a .successor .now) news (a .in-head .now) (a .out-head .now) (a .queue .now) (a .visited .now) (a .in-next .now) (a .out-next .now)
 
 lent : (c : tie.After-lent) (news : List ℕ) → lentNumber (start c .args .graph) (enough (checkNeeds (start c .args .graph .n) (nodesOf (start c .args .graph)) (start c .args .graph .limit) (lengths (tables c news)))) ≡ c .lent .result
 lent c news = sym (rw (c .before .enough-to-check .ensures, c .before .before .nodes .ensures) at (c .lent .ensures))

@@ -30,7 +30,7 @@ same-length c = search needs
 returns : tie.Need-returns
 returns c =
     let e = sym (c .before .before .before .before .before .write .ensures .answer) ∙ ap writtenOutcome (c .before .end .given .1) in
-    (sym (ap (codeBy {A = ℕ} (λ place. 0)) e), sym (ap (λ (w : Outcome ℕ). placeAfter w (c .before .before .before .before .before .before .before .before .before .before .before .before .args .at .now)) e), c .before .before .before .before .before .write .ensures .buffer)
+    (sym (ap (codeBy {A = ℕ} (λ place. 0)) e), sym (ap (λ (w : Outcome ℕ). placeAfter w (c .before .before .before .before .before .before .before .before .before .before .before .before .before .args .at .now)) e), c .before .before .before .before .before .write .ensures .buffer)
 
 same-length-2 : tie.Need-same-length-2
 same-length-2 c = search needs
@@ -38,7 +38,7 @@ same-length-2 c = search needs
 returns-2 : tie.Need-returns-2
 returns-2 c =
     let e = sym (c .before .before .before .before .before .write .ensures .answer) ∙ ap writtenOutcome (c .before .number .given .1) in
-    (sym (ap (codeBy {A = ℕ} (λ place. 0)) e), sym (ap (λ (w : Outcome ℕ). placeAfter w (c .before .before .before .before .before .before .before .before .before .before .before .before .args .at .now)) e), c .before .before .before .before .before .write .ensures .buffer)
+    (sym (ap (codeBy {A = ℕ} (λ place. 0)) e), sym (ap (λ (w : Outcome ℕ). placeAfter w (c .before .before .before .before .before .before .before .before .before .before .before .before .before .args .at .now)) e), c .before .before .before .before .before .write .ensures .buffer)
 
 pub radvoinis-write-spec : {M : Type 1} → statement M
 radvoinis-write-spec =

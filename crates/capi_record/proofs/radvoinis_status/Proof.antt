@@ -43,13 +43,16 @@ slice-aggregate-status-after-11 c = search needs
 slice-aggregate-status-after-12 : tie.Need-slice-aggregate-status-after-12
 slice-aggregate-status-after-12 c = search needs
 
+slice-aggregate-status-after-13 : tie.Need-slice-aggregate-status-after-13
+slice-aggregate-status-after-13 c = search needs
+
 status-after-requires : tie.Need-status-after-requires
 status-after-requires c κs = search needs
 
 returns : tie.Need-returns
 unfolding visitedLength
 returns c =
-    c .before .before .before .before .before .before .before .before .before .before .before .before .status-after .ensures .answer ∙ answer-opened _ (c .before .before .before .before .before .before .before .before .before .before .before .before .before .before .before .before .before .before .before .before .before .before .before .before .before .before .args .bytes .now) (c .before .before .before .before .before .before .before .before .before .before .before .before .before .before .before .before .before .before .before .before .before .before .before .before .before .before .args .state) refl
+    c .before .before .before .before .before .before .before .before .before .before .before .before .before .status-after .ensures .answer ∙ answer-opened _ (c .before .before .before .before .before .before .before .before .before .before .before .before .before .before .before .before .before .before .before .before .before .before .before .before .before .before .before .before .args .bytes .now) (c .before .before .before .before .before .before .before .before .before .before .before .before .before .before .before .before .before .before .before .before .before .before .before .before .before .before .before .before .args .state) refl
 
 pub radvoinis-status-spec : {M : Type 1} → statement M
 radvoinis-status-spec =
@@ -67,5 +70,6 @@ radvoinis-status-spec =
     slice-aggregate-status-after-10
     slice-aggregate-status-after-11
     slice-aggregate-status-after-12
+    slice-aggregate-status-after-13
     status-after-requires
     returns)

@@ -49,6 +49,9 @@ slice-aggregate-draw-input-13 c = search needs
 slice-aggregate-draw-input-14 : tie.Need-slice-aggregate-draw-input-14
 slice-aggregate-draw-input-14 c = search needs
 
+slice-aggregate-draw-input-15 : tie.Need-slice-aggregate-draw-input-15
+slice-aggregate-draw-input-15 c = search needs
+
 draw-input-requires : tie.Need-draw-input-requires
 unfolding visitedLength
 draw-input-requires c κs = (omega arith, refl)
@@ -74,5 +77,6 @@ draw-record-spec =
     slice-aggregate-draw-input-12
     slice-aggregate-draw-input-13
     slice-aggregate-draw-input-14
+    slice-aggregate-draw-input-15
     draw-input-requires
     returns)

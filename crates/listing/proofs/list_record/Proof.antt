@@ -49,6 +49,9 @@ slice-aggregate-list-input-13 c = search needs
 slice-aggregate-list-input-14 : tie.Need-slice-aggregate-list-input-14
 slice-aggregate-list-input-14 c = search needs
 
+slice-aggregate-list-input-15 : tie.Need-slice-aggregate-list-input-15
+slice-aggregate-list-input-15 c = search needs
+
 list-input-requires : tie.Need-list-input-requires
 unfolding visitedLength
 list-input-requires c κs = (omega arith, refl)
@@ -74,5 +77,6 @@ list-record-spec =
     slice-aggregate-list-input-12
     slice-aggregate-list-input-13
     slice-aggregate-list-input-14
+    slice-aggregate-list-input-15
     list-input-requires
     returns)

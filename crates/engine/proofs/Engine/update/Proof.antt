@@ -17,7 +17,7 @@ use Rattle.engine.proofs.Engine.update.Tie as tie
 
 -- The places on the way back to the start.
 abbrev start : tie.After-lent → tie.Start
-start c = c .before .before .before .before .before .before .before .before .before .before .before .before .before .before .before .before
+start c = c .before .before .before .before .before .before .before .before .before .before .before .before .before .before .before .before .before
 
 abbrev at-passed : tie.Else2 → tie.Else1
 at-passed c = c .before .before .before .before
@@ -29,13 +29,13 @@ abbrev at-again : tie.Else3 → tie.Else2
 at-again c = c .before .before .before
 
 abbrev at-once : tie.After-list → tie.Else3
-at-once c = c .before .before .before .before .before .before .before
+at-once c = c .before .before .before .before .before .before .before .before
 
 abbrev at-sent : tie.After-list → tie.Else2
 at-sent c = at-again (at-once c)
 
 abbrev at-listed : tie.After-mark → tie.After-list
-at-listed c = c .before .before .before .before .before .before .before .before .before .before .before .before .before .before .before
+at-listed c = c .before .before .before .before .before .before .before .before .before .before .before .before .before .before .before .before .before
 
 abbrev at-marked : tie.After-after → tie.After-mark
 at-marked c = c .before .before .before .before .before
@@ -56,7 +56,7 @@ graph c = start c .args .self .graph
 abbrev tables : tie.After-lent → Tables
 tables c =
     let a = start c .args in
-    tablesOf (a .status .now) (a .marks .now) (a .from .now) (a .to .now) (a .successor .now) (a .news .now) (a .in-head .now) (a .out-head .now) (a .queue .now) (a .visited .now) (a .in-next .now) (a .out-next .now)
+    tablesOf (a .status .now) (a .marks .now) (a .from .now) (a .to .now) (a .key .now) (a .successor .now) (a .news .now) (a .in-head .now) (a .out-head .now) (a .queue .now) (a .visited .now) (a .in-next .now) (a .out-next .now)
 
 -- The tests 1 to 4 by their number, and where they pass.
 lent : (c : tie.After-lent) → lentNumber (graph c) (longEnough (graph c) (tables c)) ≡ c .lent .result
@@ -68,7 +68,7 @@ passed c = lent (c .before) ∙ c .if1 .left
 room : (c : tie.Else1) → let l = c .before in Room (graph l .n) (graph l .n) (graph l .limit) (graph l .steps) (tables l)
 room c = room-of (graph (c .before)) (tables (c .before)) (passed c)
 
--- The tests 5 to 9.
+-- The tests behind 4.
 sent-is : (c : tie.After-sent) → let l = c .before .before .before .before in sentNumber (graph l) (isFull (graph l)) (tables l .marks) (start l .args .update) ≡ c .sent .result
 sent-is c = sym (rw (c .before .before .is-full .ensures) at (c .sent .ensures))
 
@@ -130,10 +130,10 @@ returns-3 c =
     again-kept (graph l) (start l .args .update) (tables l) (passed (at-passed d)) (sent d) (sym (c .before .closes-again .ensures) ∙ c .if3 .taken)
 
 list-requires : tie.Need-list-requires
-list-requires c κs = let d = at-again (c .before .before .before .before .before .before) in listable (room (at-passed d)) (start (at-lent d) .args .update) (sendable d)
+list-requires c κs = let d = at-again (c .before .before .before .before .before .before .before) in listable (room (at-passed d)) (start (at-lent d) .args .update) (sendable d)
 
 mark-requires : tie.Need-mark-requires
-mark-requires c κs = let d = at-sent (c .before .before .before .before .before .before .before .before .before .before .before .before .before .before) in markable (room (at-passed d)) (start (at-lent d) .args .update) (sendable d)
+mark-requires c κs = let d = at-sent (c .before .before .before .before .before .before .before .before .before .before .before .before .before .before .before .before) in markable (room (at-passed d)) (start (at-lent d) .args .update) (sendable d)
 
 after-requires : tie.Need-after-requires
 after-requires c κs = let r = room (at-passed (at-sent (at-listed (c .before .before .before .before)))) in omega (arith, r .steps, r .bound)
@@ -153,8 +153,8 @@ judge-requires c κs =
       (sendable-range (graph l .n) (graph l .limit) (graph l .steps) (a .update) (sendable d), r .states),
       (
         (
-          walk (a .from .now) (a .in-head .now) (a .in-next .now) (i .list .last .1 .1 .0) (i .list .last .1 .1 .1 .1 .0) (i .list .last .1 .1 .1 .1 .1 .1 .0) (r .long .from) (r .long .inHead) (r .long .inNext) (w .1 .1 .0) (w .1 .1 .1 .1 .0) (w .1 .1 .1 .1 .1 .1 .0) (f .after .result .steps) q,
-          walk (a .to .now) (a .out-head .now) (a .out-next .now) (i .list .last .1 .1 .1 .0) (i .list .last .1 .1 .1 .1 .1 .0) (i .list .last .1 .1 .1 .1 .1 .1 .1 .0) (r .long .to) (r .long .outHead) (r .long .outNext) (w .1 .1 .1 .0) (w .1 .1 .1 .1 .1 .0) (w .1 .1 .1 .1 .1 .1 .1 .0) (f .after .result .steps) q,
+          walk (a .from .now) (a .in-head .now) (a .in-next .now) (i .list .last .1 .1 .0) (i .list .last .1 .1 .1 .1 .1 .0) (i .list .last .1 .1 .1 .1 .1 .1 .1 .0) (r .long .from) (r .long .inHead) (r .long .inNext) (w .1 .1 .0) (w .1 .1 .1 .1 .1 .0) (w .1 .1 .1 .1 .1 .1 .1 .0) (f .after .result .steps) q,
+          walk (a .to .now) (a .out-head .now) (a .out-next .now) (i .list .last .1 .1 .1 .0) (i .list .last .1 .1 .1 .1 .1 .1 .0) (i .list .last .1 .1 .1 .1 .1 .1 .1 .1 .0) (r .long .to) (r .long .outHead) (r .long .outNext) (w .1 .1 .1 .0) (w .1 .1 .1 .1 .1 .1 .0) (w .1 .1 .1 .1 .1 .1 .1 .1 .0) (f .after .result .steps) q,
         ),
         (rw (k .mark .kept .1 .0) (r .long .status), r .long .successor, r .news, r .long .queue, r .long .visited),
       ),
@@ -173,28 +173,31 @@ same-length-6 : tie.Need-same-length-6
 same-length-6 c = at-list (c .before .before .before .before .before .before .before .before .before .before) .list .kept .1 .1 .1 .0
 
 same-length-7 : tie.Need-same-length-7
-same-length-7 c = c .before .before .before .before .before .before .before .before .before .before .judge .kept .1 .1 .1 .1 .1 .1 .0
+same-length-7 c = at-list (c .before .before .before .before .before .before .before .before .before .before) .list .kept .1 .1 .1 .1 .0
 
 same-length-8 : tie.Need-same-length-8
-same-length-8 c = c .before .before .before .before .before .before .before .before .before .before .judge .kept .1 .1 .1 .1 .1 .1 .1 .0
+same-length-8 c = c .before .before .before .before .before .before .before .before .before .before .judge .kept .1 .1 .1 .1 .1 .1 .0
 
 same-length-9 : tie.Need-same-length-9
-same-length-9 c = at-list (c .before .before .before .before .before .before .before .before .before .before) .list .kept .1 .1 .1 .1 .0
+same-length-9 c = c .before .before .before .before .before .before .before .before .before .before .judge .kept .1 .1 .1 .1 .1 .1 .1 .0
 
 same-length-10 : tie.Need-same-length-10
 same-length-10 c = at-list (c .before .before .before .before .before .before .before .before .before .before) .list .kept .1 .1 .1 .1 .1 .0
 
 same-length-11 : tie.Need-same-length-11
-same-length-11 c = c .before .before .before .before .before .before .before .before .before .before .judge .kept .1 .1 .1 .1 .1 .1 .1 .1 .1 .1 .0
+same-length-11 c = at-list (c .before .before .before .before .before .before .before .before .before .before) .list .kept .1 .1 .1 .1 .1 .1 .0
 
 same-length-12 : tie.Need-same-length-12
-same-length-12 c = c .before .before .before .before .before .before .before .before .before .before .judge .kept .1 .1 .1 .1 .1 .1 .1 .1 .1 .1 .1 .0
+same-length-12 c = c .before .before .before .before .before .before .before .before .before .before .judge .kept .1 .1 .1 .1 .1 .1 .1 .1 .1 .1 .0
 
 same-length-13 : tie.Need-same-length-13
-same-length-13 c = at-list (c .before .before .before .before .before .before .before .before .before .before) .list .kept .1 .1 .1 .1 .1 .1 .0
+same-length-13 c = c .before .before .before .before .before .before .before .before .before .before .judge .kept .1 .1 .1 .1 .1 .1 .1 .1 .1 .1 .1 .0
 
 same-length-14 : tie.Need-same-length-14
 same-length-14 c = at-list (c .before .before .before .before .before .before .before .before .before .before) .list .kept .1 .1 .1 .1 .1 .1 .1 .0
+
+same-length-15 : tie.Need-same-length-15
+same-length-15 c = at-list (c .before .before .before .before .before .before .before .before .before .before) .list .kept .1 .1 .1 .1 .1 .1 .1 .1 .0
 
 returns-4 : tie.Need-returns-4
 returns-4 c =
@@ -240,4 +243,5 @@ update-spec =
     same-length-12
     same-length-13
     same-length-14
+    same-length-15
     returns-4)

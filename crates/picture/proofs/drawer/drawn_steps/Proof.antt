@@ -15,7 +15,10 @@ returns-3 : tie.Need-returns-3
 returns-3 c = let a = c .before .before .before .args in rw (le-ltb maxSteps (a .steps) (c .before .before .if1 .left), le-ltb (a .from) (a .steps) (c .before .if2 .left), lt-ltb (a .to) (a .steps) (c .if3 .taken))
 
 returns-4 : tie.Need-returns-4
-returns-4 c = let a = c .before .before .before .args in rw (le-ltb maxSteps (a .steps) (c .before .before .if1 .left), le-ltb (a .from) (a .steps) (c .before .if2 .left), le-ltb (a .to) (a .steps) (c .if3 .left))
+returns-4 c = let a = c .before .before .before .before .args in rw (le-ltb maxSteps (a .steps) (c .before .before .before .if1 .left), le-ltb (a .from) (a .steps) (c .before .before .if2 .left), le-ltb (a .to) (a .steps) (c .before .if3 .left), lt-ltb (a .key) (a .steps) (c .if4 .taken))
+
+returns-5 : tie.Need-returns-5
+returns-5 c = let a = c .before .before .before .before .args in rw (le-ltb maxSteps (a .steps) (c .before .before .before .if1 .left), le-ltb (a .from) (a .steps) (c .before .before .if2 .left), le-ltb (a .to) (a .steps) (c .before .if3 .left), le-ltb (a .key) (a .steps) (c .if4 .left))
 
 pub drawn-steps-spec : {M : Type 1} → statement M
-drawn-steps-spec = tie.close (tie.spec returns returns-2 returns-3 returns-4)
+drawn-steps-spec = tie.close (tie.spec returns returns-2 returns-3 returns-4 returns-5)

@@ -11,13 +11,13 @@ use Rattle.reader.proofs.start.open.Statement.{statement}
 use Rattle.reader.proofs.start.open.Tie as tie
 
 abbrev start : tie.After-lent → tie.Start
-start c = c .before .before .before .before .before .before .before .before .before .before .before .before .before .before .before
+start c = c .before .before .before .before .before .before .before .before .before .before .before .before .before .before .before .before
 
 -- The tables as they came.
 abbrev tables : tie.After-lent → Tables
 tables c =
     let a = start c .args in
-    tablesOf (a .status .now) (a .marks .now) (a .from .now) (a .to .now) (a .successor .now) (a .news .now) (a .in-head .now) (a .out-head .now) (a .queue .now) (a .visited .now) (a .in-next .now) (a .out-next .now)
+    tablesOf (a .status .now) (a .marks .now) (a .from .now) (a .to .now) (a .key .now) (a .successor .now) (a .news .now) (a .in-head .now) (a .out-head .now) (a .queue .now) (a .visited .now) (a .in-next .now) (a .out-next .now)
 
 -- The tests by their number, and where they pass.
 lent : (c : tie.After-lent) → openNumber (start c .args .limit) (tables c) ≡ c .lent .result

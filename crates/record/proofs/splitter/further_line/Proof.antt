@@ -18,8 +18,8 @@ returns c = rw (lt-leb (c .before .before .args .number) 65535 (c .before .if1 .
 empty-requires-2 : tie.Need-empty-requires-2
 empty-requires-2 c κs = search needs
 
-add-t8 : tie.Need-add-t8
-add-t8 c = search needs
+add-t9 : tie.Need-add-t9
+add-t9 c = search needs
 
 parse-requires : tie.Need-parse-requires
 parse-requires c κs = search needs
@@ -29,7 +29,7 @@ item-of-requires c κs = search needs
 
 returns-2 : tie.Need-returns-2
 unfolding afterFurther
-returns-2 c = rw (le-leb (c .before .before .before .before .args .number) 65535 (c .before .before .before .if1 .left), c .before .before .empty2 .ensures, c .item-of .ensures, c .before .parse .ensures, parsed-item (lineIn (c .before .before .before .before .args .line)) (c .before .before .before .before .args .number))
+returns-2 c = rw (le-leb (c .before .before .before .before .args .number) 65535 (c .before .before .before .if1 .left), c .before .before .empty2 .ensures, c .item-of .ensures, c .before .parse .ensures, parsed-item (lineIn (c .before .before .before .before .args .form) (c .before .before .before .before .args .line)) (c .before .before .before .before .args .number))
 
 pub further-line-spec : {M : Type 1} → statement M
 further-line-spec =
@@ -38,7 +38,7 @@ further-line-spec =
     empty-requires
     returns
     empty-requires-2
-    add-t8
+    add-t9
     parse-requires
     item-of-requires
     returns-2)

@@ -1,5 +1,5 @@
 use mathlib.Core.Path.{sym, _∙_}
-use borrow.Author.Tests.{le-leb, lt-leb}
+use borrow.Author.Tests.{le-leb, lt-leb, lt-ltb, le-ltb}
 use Rattle.tables.specs.Refused.{sentNumber}
 use borrow.Author.Needs.{needs}
 use Rattle.tables.proofs.Graph.sent_step.Statement.{statement}
@@ -13,23 +13,27 @@ returns-2 : tie.Need-returns-2
 unfolding sentNumber
 returns-2 c = simp (lt-leb _ _ (c .before .before .before .if1 .left), le-leb _ _ (c .if2 .taken))
 
+returns-3 : tie.Need-returns-3
+unfolding sentNumber
+returns-3 c = simp (lt-leb _ _ (c .before .before .before .before .before .if1 .left), lt-leb _ _ (c .before .before .if2 .left), lt-ltb _ _ (c .if3 .taken))
+
 shared-slice-read-has-closed : tie.Need-shared-slice-read-has-closed
 shared-slice-read-has-closed c = search needs
 
 has-closed-requires : tie.Need-has-closed-requires
 has-closed-requires c κs = search needs
 
-returns-3 : tie.Need-returns-3
-unfolding sentNumber
-returns-3 c = simp (lt-leb _ _ (c .before .before .before .before .before .before .if1 .left), lt-leb _ _ (c .before .before .before .if2 .left), sym (c .before .has-closed .ensures) ∙ c .if3 .taken)
-
 returns-4 : tie.Need-returns-4
 unfolding sentNumber
-returns-4 c = simp (lt-leb _ _ (c .before .before .before .before .before .before .before .if1 .left), lt-leb _ _ (c .before .before .before .before .if2 .left), sym (c .before .before .has-closed .ensures) ∙ c .before .if3 .left, c .if4 .taken)
+returns-4 c = simp (lt-leb _ _ (c .before .before .before .before .before .before .before .before .if1 .left), lt-leb _ _ (c .before .before .before .before .before .if2 .left), le-ltb _ _ (c .before .before .before .if3 .left), sym (c .before .has-closed .ensures) ∙ c .if4 .taken)
 
 returns-5 : tie.Need-returns-5
 unfolding sentNumber
-returns-5 c = simp (lt-leb _ _ (c .before .before .before .before .before .before .before .if1 .left), lt-leb _ _ (c .before .before .before .before .if2 .left), sym (c .before .before .has-closed .ensures) ∙ c .before .if3 .left, c .if4 .left)
+returns-5 c = simp (lt-leb _ _ (c .before .before .before .before .before .before .before .before .before .if1 .left), lt-leb _ _ (c .before .before .before .before .before .before .if2 .left), le-ltb _ _ (c .before .before .before .before .if3 .left), sym (c .before .before .has-closed .ensures) ∙ c .before .if4 .left, c .if5 .taken)
+
+returns-6 : tie.Need-returns-6
+unfolding sentNumber
+returns-6 c = simp (lt-leb _ _ (c .before .before .before .before .before .before .before .before .before .if1 .left), lt-leb _ _ (c .before .before .before .before .before .before .if2 .left), le-ltb _ _ (c .before .before .before .before .if3 .left), sym (c .before .before .has-closed .ensures) ∙ c .before .if4 .left, c .if5 .left)
 
 pub sent-step-spec : {M : Type 1} → statement M
 sent-step-spec =
@@ -37,8 +41,9 @@ sent-step-spec =
     (tie.spec
     returns
     returns-2
+    returns-3
     shared-slice-read-has-closed
     has-closed-requires
-    returns-3
     returns-4
-    returns-5)
+    returns-5
+    returns-6)

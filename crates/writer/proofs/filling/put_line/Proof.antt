@@ -2,6 +2,7 @@
 -- Assumes nothing.
 use Rattle.writer.specs.Order.{lineBytes}
 use Rattle.record.proofs.Writing.{lent-back}
+use Rattle.record.specs.declared.line.Form.the-variants.{Keyed}
 use Rattle.record.specs.Text.{text}
 use mathlib.Core.List.{[], _∷_}
 use lib.ListN.{length, drop, length-append, length-take, length-drop}
@@ -23,7 +24,7 @@ part-put-update-end c = search needs
 put-update-requires : tie.Need-put-update-requires
 put-update-requires c κs =
     let a = c .before .before .args in
-    omega (arith, length-append (text (a .update)) (10 ∷ []), length-take (length (a .buf .now) - a .at) (drop (a .at) (a .buf .now)), length-drop (a .at) (a .buf .now))
+    omega (arith, length-append (text Keyed (a .update)) (10 ∷ []), length-take (length (a .buf .now) - a .at) (drop (a .at) (a .buf .now)), length-drop (a .at) (a .buf .now))
 
 add-result : tie.Need-add-result
 add-result c = search needs

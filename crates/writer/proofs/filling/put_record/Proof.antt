@@ -12,32 +12,32 @@ slice-aggregate-put-bytes-at c = search needs
 
 put-bytes-at-requires : tie.Need-put-bytes-at-requires
 put-bytes-at-requires c κs =
-    let a = c .before .before .before .before .before .before .args in
-    omega (arith, c .before .before .before .before .before .before .pre .3, record-size (a .n) (a .m) (a .marks .now) (a .from .now) (a .to .now))
+    let a = c .before .before .before .before .before .before .before .args in
+    omega (arith, c .before .before .before .before .before .before .before .pre .4, record-size (a .n) (a .m) (a .marks .now) (a .from .now) (a .to .now) (a .key .now))
 
 put-marks-requires : tie.Need-put-marks-requires
 put-marks-requires c κs =
     let names = c .before .before .before .put-bytes-at in
-    let a = c .before .before .before .before .before .before .before .before .before .before .args in
-    let pre = c .before .before .before .before .before .before .before .before .before .before .pre in
-    (pre .0, omega (arith, pre .3, names .ensures .after, names .kept .0, record-size (a .n) (a .m) (a .marks .now) (a .from .now) (a .to .now)))
+    let a = c .before .before .before .before .before .before .before .before .before .before .before .args in
+    let pre = c .before .before .before .before .before .before .before .before .before .before .before .pre in
+    (pre .0, omega (arith, pre .4, names .ensures .after, names .kept .0, record-size (a .n) (a .m) (a .marks .now) (a .from .now) (a .to .now) (a .key .now)))
 
 put-steps-requires : tie.Need-put-steps-requires
 put-steps-requires c κs =
     let terminals = c .before .before .before .put-marks in
     let names = c .before .before .before .before .before .before .before .put-bytes-at in
-    let a = c .before .before .before .before .before .before .before .before .before .before .before .before .before .before .args in
-    let pre = c .before .before .before .before .before .before .before .before .before .before .before .before .before .before .pre in
-    (pre .1, pre .2, omega (arith, pre .3, names .ensures .after, names .kept .0, terminals .ensures .after, terminals .kept .0, record-size (a .n) (a .m) (a .marks .now) (a .from .now) (a .to .now)))
+    let a = c .before .before .before .before .before .before .before .before .before .before .before .before .before .before .before .args in
+    let pre = c .before .before .before .before .before .before .before .before .before .before .before .before .before .before .before .pre in
+    (pre .1, pre .2, pre .3, omega (arith, pre .4, names .ensures .after, names .kept .0, terminals .ensures .after, terminals .kept .0, record-size (a .n) (a .m) (a .marks .now) (a .from .now) (a .to .now) (a .key .now)))
 
 put-marks-requires-2 : tie.Need-put-marks-requires-2
 put-marks-requires-2 c κs =
     let steps = c .before .before .before .put-steps in
     let terminals = c .before .before .before .before .before .before .before .put-marks in
     let names = c .before .before .before .before .before .before .before .before .before .before .before .put-bytes-at in
-    let a = c .before .before .before .before .before .before .before .before .before .before .before .before .before .before .before .before .before .before .args in
-    let pre = c .before .before .before .before .before .before .before .before .before .before .before .before .before .before .before .before .before .before .pre in
-    (pre .0, omega (arith, pre .3, names .ensures .after, names .kept .0, terminals .ensures .after, terminals .kept .0, steps .ensures .after, steps .kept .0, record-size (a .n) (a .m) (a .marks .now) (a .from .now) (a .to .now)))
+    let a = c .before .before .before .before .before .before .before .before .before .before .before .before .before .before .before .before .before .before .before .args in
+    let pre = c .before .before .before .before .before .before .before .before .before .before .before .before .before .before .before .before .before .before .before .pre in
+    (pre .0, omega (arith, pre .4, names .ensures .after, names .kept .0, terminals .ensures .after, terminals .kept .0, steps .ensures .after, steps .kept .0, record-size (a .n) (a .m) (a .marks .now) (a .from .now) (a .to .now) (a .key .now)))
 
 same-length : tie.Need-same-length
 same-length c = search needs
@@ -48,15 +48,15 @@ returns c =
     let steps = c .before .before .before .before .before .before .put-steps .ensures in
     let terminals = c .before .before .before .before .before .before .before .before .before .before .put-marks .ensures in
     let names = c .before .before .before .before .before .before .before .before .before .before .before .before .before .before .put-bytes-at .ensures in
-    let a = c .before .before .before .before .before .before .before .before .before .before .before .before .before .before .before .before .before .before .before .before .before .args in
-    let pre = c .before .before .before .before .before .before .before .before .before .before .before .before .before .before .before .before .before .before .before .before .before .pre in
-    let z = record-size (a .n) (a .m) (a .marks .now) (a .from .now) (a .to .now) in
-    rw (parts (a .n) (a .m) (a .marks .now) (a .from .now) (a .to .now))
+    let a = c .before .before .before .before .before .before .before .before .before .before .before .before .before .before .before .before .before .before .before .before .before .before .args in
+    let pre = c .before .before .before .before .before .before .before .before .before .before .before .before .before .before .before .before .before .before .before .before .before .before .pre in
+    let z = record-size (a .n) (a .m) (a .marks .now) (a .from .now) (a .to .now) (a .key .now) in
+    rw (parts (a .n) (a .m) (a .marks .now) (a .from .now) (a .to .now) (a .key .now))
     (placed-on
     (placed-on
-    (placed-on names terminals (omega (arith, pre .3, names .after, terminals .after)))
-    steps (omega (arith, pre .3, names .after, terminals .after, steps .after)))
-    closes (omega (arith, pre .3, names .after, terminals .after, steps .after, closes .after)))
+    (placed-on names terminals (omega (arith, pre .4, names .after, terminals .after)))
+    steps (omega (arith, pre .4, names .after, terminals .after, steps .after)))
+    closes (omega (arith, pre .4, names .after, terminals .after, steps .after, closes .after)))
 
 pub put-record-spec : {M : Type 1} → statement M
 put-record-spec =

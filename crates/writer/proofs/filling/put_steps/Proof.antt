@@ -13,15 +13,15 @@ use Rattle.writer.proofs.filling.put_steps.Statement.{statement}
 use Rattle.writer.proofs.filling.put_steps.Tie as tie
 
 abbrev Inv-loop : tie.InvT-loop
-Inv-loop buf₀ at m from to next₀ p₀ buf next p = (p ≤ m) × WroteAt at (bytesOf (stepLines p from to)) buf₀ buf next × (length buf ≡ length buf₀)
+Inv-loop buf₀ at m from to key next₀ p₀ buf next p = (p ≤ m) × WroteAt at (bytesOf (stepLines p from to key)) buf₀ buf next × (length buf ≡ length buf₀)
 
 abbrev μ-loop : tie.MeasureT-loop
-μ-loop buf₀ at m from to next₀ p₀ buf next p = m - p
+μ-loop buf₀ at m from to key next₀ p₀ buf next p = m - p
 
 loop-holds : tie.Need-loop-holds Inv-loop μ-loop
 loop-holds c =
-    let a = c .before .before .before .args in
-    (omega arith, rw (order-none (λ p. true) (stepAt (a .from .now) (a .to .now))) (placed-none (a .at) (a .buf .now)), refl)
+    let a = c .before .before .before .before .args in
+    (omega arith, rw (order-none (λ p. true) (stepAt (a .from .now) (a .to .now) (a .key .now))) (placed-none (a .at) (a .buf .now)), refl)
 
 mul-put-step : tie.Need-mul-put-step Inv-loop μ-loop
 mul-put-step c = omega arith
@@ -35,12 +35,15 @@ mul-put-step-2 c = omega arith
 shared-slice-read-put-step-2 : tie.Need-shared-slice-read-put-step-2 Inv-loop μ-loop
 shared-slice-read-put-step-2 c = omega arith
 
+shared-slice-read-put-step-3 : tie.Need-shared-slice-read-put-step-3 Inv-loop μ-loop
+shared-slice-read-put-step-3 c = omega arith
+
 put-step-requires : tie.Need-put-step-requires Inv-loop μ-loop
 put-step-requires c κs =
-    let loop = c .before .before .before .before .loop in
-    let a = c .before .before .before .before .before .before .before .before .args in
-    let g = rw bytes-one at (order-room (λ p. true) (stepAt (a .from .now) (a .to .now)) (loop .p) (a .m) (omega arith)) in
-    omega (arith, loop .inv .1 .after, loop .inv .2, c .before .before .before .before .before .before .before .before .pre .2)
+    let loop = c .before .before .before .before .before .loop in
+    let a = c .before .before .before .before .before .before .before .before .before .before .args in
+    let g = rw bytes-one at (order-room (λ p. true) (stepAt (a .from .now) (a .to .now) (a .key .now)) (loop .p) (a .m) (omega arith)) in
+    omega (arith, loop .inv .1 .after, loop .inv .2, c .before .before .before .before .before .before .before .before .before .before .pre .3)
 
 add-p : tie.Need-add-p Inv-loop μ-loop
 add-p c = omega arith
@@ -50,12 +53,12 @@ loop-less c = omega arith
 
 loop-again : tie.Need-loop-again Inv-loop μ-loop
 loop-again c =
-    let loop = c .before .before .before .before .before .before .before .loop in
+    let loop = c .before .before .before .before .before .before .before .before .loop in
     let put-step = c .before .before .put-step in
-    let a = c .before .before .before .before .before .before .before .before .before .before .before .args in
-    let g = rw bytes-one at (order-room (λ p. true) (stepAt (a .from .now) (a .to .now)) (loop .p) (a .m) (omega arith)) in (
+    let a = c .before .before .before .before .before .before .before .before .before .before .before .before .before .args in
+    let g = rw bytes-one at (order-room (λ p. true) (stepAt (a .from .now) (a .to .now) (a .key .now)) (loop .p) (a .m) (omega arith)) in (
       omega arith,
-      rw (order-more (λ p. true) (stepAt (a .from .now) (a .to .now)) (loop .p), bytes-one) (placed-on (loop .inv .1) (put-step .ensures) (omega (arith, put-step .ensures .after, loop .inv .1 .after, c .before .before .before .before .before .before .before .before .before .before .before .pre .2))),
+      rw (order-more (λ p. true) (stepAt (a .from .now) (a .to .now) (a .key .now)) (loop .p), bytes-one) (placed-on (loop .inv .1) (put-step .ensures) (omega (arith, put-step .ensures .after, loop .inv .1 .after, c .before .before .before .before .before .before .before .before .before .before .before .before .before .pre .3))),
       omega (arith, put-step .kept .0, loop .inv .2),
     )
 
@@ -65,7 +68,7 @@ same-length c = c .before .loop .inv .2
 returns : tie.Need-returns Inv-loop μ-loop
 returns c =
     let loop = c .before .loop in
-    let q : loop .p ≡ c .before .before .before .before .before .args .m = omega arith in
+    let q : loop .p ≡ c .before .before .before .before .before .before .args .m = omega arith in
     rw (← q) (loop .inv .1)
 
 pub put-steps-spec : {M : Type 1} → statement M
@@ -79,6 +82,7 @@ put-steps-spec =
     shared-slice-read-put-step
     mul-put-step-2
     shared-slice-read-put-step-2
+    shared-slice-read-put-step-3
     put-step-requires
     add-p
     loop-less

@@ -10,7 +10,7 @@ use Rattle.writer.proofs.sizes.marks_size.Statement.{statement}
 use Rattle.writer.proofs.sizes.marks_size.Tie as tie
 
 abbrev Inv-loop : tie.InvT-loop
-Inv-loop mark n marks size₀ s₀ size s = (s ≤ n) × (size ≡ length (bytesOf (markedLines mark s marks))) × (size ≤ 14 * s)
+Inv-loop mark n marks size₀ s₀ size s = (s ≤ n) × (size ≡ length (bytesOf (markedLines mark s marks))) × (size ≤ 20 * s)
 
 abbrev μ-loop : tie.MeasureT-loop
 μ-loop mark n marks size₀ s₀ size s = n - s

@@ -26,8 +26,8 @@ add-result-3 c = search needs
 
 returns : tie.Need-returns
 returns c =
-    let a = c .before .before .before .before .before .before .args in
-    omega (arith, c .before .before .marks-size .ensures .0, c .before .steps-size .ensures .0, c .marks-size2 .ensures .0, record-size (a .n) (a .m) (a .marks .now) (a .from .now) (a .to .now))
+    let a = c .before .before .before .before .before .before .before .args in
+    omega (arith, c .before .before .marks-size .ensures .0, c .before .steps-size .ensures .0, c .marks-size2 .ensures .0, record-size (a .n) (a .m) (a .marks .now) (a .from .now) (a .to .now) (a .key .now))
 
 pub record-size-spec : {M : Type 1} → statement M
 record-size-spec =

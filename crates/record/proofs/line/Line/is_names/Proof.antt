@@ -17,19 +17,16 @@ array-share-prefix-bytes c =
     let e : length (c .before .before .args .self .bytes) ≡ 16 = search needs in
     omega arith
 
-slice-aggregate-equal : tie.Need-slice-aggregate-equal
-slice-aggregate-equal c =
+slice-aggregate-equal-names : tie.Need-slice-aggregate-equal-names
+slice-aggregate-equal-names c =
     let e : length (c .before .before .before .args .self .bytes) ≡ 16 = search needs in
     sym (length-take-le (c .before .before .before .args .self .len) (c .before .before .before .args .self .bytes) (omega arith))
 
-slice-aggregate-equal-2 : tie.Need-slice-aggregate-equal-2
-slice-aggregate-equal-2 c = search needs
-
-equal-requires : tie.Need-equal-requires
-equal-requires c κs = search needs
+equal-names-requires : tie.Need-equal-names-requires
+equal-names-requires c κs = search needs
 
 returns-2 : tie.Need-returns-2
-returns-2 c = rw (le-leb (c .before .before .before .before .before .args .self .len) 16 (c .before .before .before .before .if1 .left)) (c .equal .ensures)
+returns-2 c = rw (le-leb (c .before .before .before .before .args .self .len) 16 (c .before .before .before .if1 .left)) (c .equal-names .ensures)
 
 pub is-names-spec : {M : Type 1} → statement M
 is-names-spec =
@@ -37,7 +34,6 @@ is-names-spec =
     (tie.spec
     returns
     array-share-prefix-bytes
-    slice-aggregate-equal
-    slice-aggregate-equal-2
-    equal-requires
+    slice-aggregate-equal-names
+    equal-names-requires
     returns-2)

@@ -12,8 +12,8 @@ filled-requires c κs = search needs
 ended-requires : tie.Need-ended-requires
 ended-requires c κs = search needs
 
-add-t14 : tie.Need-add-t14
-add-t14 c = search needs
+add-t15 : tie.Need-add-t15
+add-t15 c = search needs
 
 returns : tie.Need-returns
 unfolding afterPart
@@ -24,4 +24,4 @@ unfolding afterPart
 returns-2 c = rw (c .before .before .filled .ensures, le-ltb _ _ (rw (c .before .before .filled .ensures) at (c .if1 .left)))
 
 pub feed-line-spec : {M : Type 1} → statement M
-feed-line-spec = tie.close (tie.spec filled-requires ended-requires add-t14 returns returns-2)
+feed-line-spec = tie.close (tie.spec filled-requires ended-requires add-t15 returns returns-2)

@@ -38,8 +38,11 @@ both-requires-10 c κs = search needs
 both-requires-11 : tie.Need-both-requires-11
 both-requires-11 c κs = search needs
 
+both-requires-12 : tie.Need-both-requires-12
+both-requires-12 c κs = search needs
+
 returns : tie.Need-returns
-returns c = rw (c .both11 .ensures, c .before .before .both10 .ensures, c .before .before .before .before .both9 .ensures, c .before .before .before .before .before .before .both8 .ensures, c .before .before .before .before .before .before .before .before .both7 .ensures, c .before .before .before .before .before .before .before .before .before .before .both6 .ensures, c .before .before .before .before .before .before .before .before .before .before .before .before .both5 .ensures, c .before .before .before .before .before .before .before .before .before .before .before .before .before .before .both4 .ensures, c .before .before .before .before .before .before .before .before .before .before .before .before .before .before .before .before .both3 .ensures, c .before .before .before .before .before .before .before .before .before .before .before .before .before .before .before .before .before .before .visited-len .ensures, c .before .before .before .before .before .before .before .before .before .before .before .before .before .before .before .before .before .before .before .both2 .ensures, c .before .before .before .before .before .before .before .before .before .before .before .before .before .before .before .before .before .before .before .before .before .both .ensures)
+returns c = rw (c .both12 .ensures, c .before .before .both11 .ensures, c .before .before .before .before .both10 .ensures, c .before .before .before .before .before .before .both9 .ensures, c .before .before .before .before .before .before .before .before .both8 .ensures, c .before .before .before .before .before .before .before .before .before .before .both7 .ensures, c .before .before .before .before .before .before .before .before .before .before .before .before .both6 .ensures, c .before .before .before .before .before .before .before .before .before .before .before .before .before .before .both5 .ensures, c .before .before .before .before .before .before .before .before .before .before .before .before .before .before .before .before .both4 .ensures, c .before .before .before .before .before .before .before .before .before .before .before .before .before .before .before .before .before .before .both3 .ensures, c .before .before .before .before .before .before .before .before .before .before .before .before .before .before .before .before .before .before .before .before .visited-len .ensures, c .before .before .before .before .before .before .before .before .before .before .before .before .before .before .before .before .before .before .before .before .before .both2 .ensures, c .before .before .before .before .before .before .before .before .before .before .before .before .before .before .before .before .before .before .before .before .before .before .before .both .ensures)
 
 pub enough-to-check-spec : {M : Type 1} → statement M
 enough-to-check-spec =
@@ -57,4 +60,5 @@ enough-to-check-spec =
     both-requires-9
     both-requires-10
     both-requires-11
+    both-requires-12
     returns)

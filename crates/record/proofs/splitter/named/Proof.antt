@@ -1,0 +1,14 @@
+-- `named` meets its contract.
+-- Assumes nothing.
+use borrow.Author.Needs.{needs}
+use Rattle.record.proofs.splitter.named.Statement.{statement}
+use Rattle.record.proofs.splitter.named.Tie as tie
+
+empty-requires : tie.Need-empty-requires
+empty-requires c κs = search needs
+
+returns : tie.Need-returns
+returns c = rw (c .empty .ensures)
+
+pub named-spec : {M : Type 1} → statement M
+named-spec = tie.close (tie.spec empty-requires returns)
