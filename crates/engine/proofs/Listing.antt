@@ -6,7 +6,7 @@ use mathlib.Core.List.{List, [], _∷_, map, map-append, append-nil, List·Mem�
 use Prim.Native.Nat.{ℕ, _+_, _<_, _≤_}
 use native.Mathlib.Omega.{arith}
 use native.Mathlib.Numerals.{add-one}
-use lib.ListN.{length, getD, set, take, length-append}
+use lib.ListN.{length, set, take, length-append}
 use lib.Seq.{sets, take-suc-set, getD-set-same, getD-set-other}
 use Rattle.gid.specs.declared.Edge.{Edge}
 use Rattle.gid.specs.declared.Update.{Update}

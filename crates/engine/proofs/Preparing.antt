@@ -2,14 +2,14 @@
 -- Assumes nothing.
 use mathlib.Core.Path.{_≡_, refl}
 use mathlib.Core.Logic.{_↔_, inl, inr}
-use mathlib.Core.List.{List, [], _∷_}
+use mathlib.Core.List.{List, _∷_}
 use Prim.Native.Nat.{ℕ, _+_, _<_, _≤_}
 use native.Mathlib.Omega.{arith}
 use lib.ListN.{length, getD}
 use Rattle.gid.specs.declared.Update.{Update}
 use Rattle.gid.specs.declared.Update.the-variants.{Step, Terminal, Close}
 use Rattle.gid.specs.Updates.{edge}
-use Rattle.gid.specs.Histories.{History, IsStep, IsNamed, added}
+use Rattle.gid.specs.Histories.{History, IsNamed}
 use Rattle.gid.specs.Systems.{ListedAt}
 use Rattle.gid.specs.Successors.{SuccessorRule}
 use Rattle.gid.specs.Refusals.{maxKey}

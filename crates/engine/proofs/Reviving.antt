@@ -17,7 +17,7 @@ use Rattle.gid.specs.Histories.{History, IsStep, IsTerminal}
 use Rattle.gid.specs.Verdicts.{Live}
 use Rattle.gid.specs.Statuses.{isLive, statusLive}
 use Rattle.gid.specs.Systems.{system}
-use Rattle.gid.proofs.Decide.{Decides, refuted, refutes, same-test, decides-or}
+use Rattle.gid.proofs.Decide.{refuted, refutes, same-test, decides-or}
 use Rattle.gid.proofs.Paths.{within-newer, newest-step, step-cases, same-ends}
 use Rattle.gid.proofs.Tests.{decides-live, step-terminal}
 use Rattle.gid.proofs.Listing.{arc-step, one-target, stays-arc}

@@ -1,7 +1,7 @@
 -- The step list of a history, by places: each step has one, each place has one step, and what is listed stays where it is.
 -- Assumes nothing.
 use mathlib.Core.Path.{_≡_, refl, sym, _∙_, ap}
-use mathlib.Core.Logic.{_↔_, ⊎-elim}
+use mathlib.Core.Logic.{⊎-elim}
 use mathlib.Core.List.{List, [], _∷_, _++_, append-nil, List·Memᴰ·head, List·Memᴰ·tail, List·Memᴰ·cases-cons, List·Memᴰ·not-nil}
 use Prim.Native.Nat.{ℕ, _+_, _<_}
 use native.Mathlib.Omega.{arith}
@@ -44,13 +44,6 @@ pub step-arc : (h : History) {u v : ℕ} → IsStep h u v → (p : ℕ) × Liste
 step-arc h m =
     let r = has-listed h (m .1) in
     (r .0, (r .1, ap (λ (d : Edge). d .from) (r .2), ap (λ (d : Edge). d .to) (r .2)))
-
--- A place of the longer list is an older one, or that of the newest step.
-pub arc-older : (h : History) (x : Update) {u p v : ℕ} → ListedAt (x ∷ h) u p v → (p < length (listed h) → ListedAt h u p v)
-unfolding listed
-arc-older h x {u} {p} {v} (i, a, b) k =
-    let q = sym (List·getD-append (listed h) (added x) (edge 0 0 0) p k) in
-    (k, ap (λ (d : Edge). d .from) q ∙ a, ap (λ (d : Edge). d .to) q ∙ b)
 
 -- What is listed at a place is a step of the history.
 pub listed-has : (h : History) {p : ℕ} → p < length (listed h) → Has h (Step (getD (listed h) p (edge 0 0 0)))
