@@ -10,8 +10,17 @@ unsigned long list_moves;
 #define MOVE() ((void)0)
 #endif
 
-// How many successors are followed in search of an open state near by.
-enum { NEAR = 16 };
+// How many successors are followed in search of an open state near by; how many steps out of a state are looked at before the whole list
+// is searched, and how many entries of it at a time.
+enum { NEAR = 16, QUICK = 8, BLOCK = 256 };
+
+// For the loop that a new step spends its time in. gcc vectorises it at -O3 alone, and not where it is inlined into what is built by -O2;
+// where it is not aligned, its time turns on where the linker happens to put it.
+#ifdef __clang__
+#define VECTORISED __attribute__((noinline, aligned(64)))
+#else
+#define VECTORISED __attribute__((noinline, aligned(64), optimize("O3")))
+#endif
 
 typedef struct {
     size_t n, limit, steps;
@@ -36,13 +45,12 @@ static int refused_source(const Engine *e, size_t u)
     return e->marks[u] & CLOSED ? 6 : 0;
 }
 
+// Of a step the tests before the search of the list, behind which 9 stands.
 static int refused_step(const Engine *e, size_t u, size_t v, size_t key)
 {
     if (u >= e->n || v >= e->n) return 5;
     if (key > MAX_KEY) return 14;
-    int number = refused_source(e, u);
-    if (number) return number;
-    return e->steps == e->limit ? 9 : 0;
+    return refused_source(e, u);
 }
 
 static int refused_terminal(const Engine *e, size_t u)
@@ -75,6 +83,49 @@ static size_t after(const uint16_t *next, size_t p)
     MOVE();
     size_t q = next[p - 1];
     return q < p ? q : 0;
+}
+
+// ---- the search for a step that is listed
+
+static int equal_at(const Engine *e, size_t p, size_t u, size_t v, size_t key)
+{
+    return e->from[p] == u && e->to[p] == v && e->key[p] == key;
+}
+
+// Whether so many entries have a step with these ends, by any key. No branch, so that eight or more are compared at once.
+static VECTORISED int ends_among(const uint16_t *from, const uint16_t *to, size_t count, uint16_t u, uint16_t v)
+{
+    uint16_t any = 0;
+    for (size_t i = 0; i < count; i++) any |= (uint16_t)((from[i] == u) & (to[i] == v));
+    return any;
+}
+
+// 1 + the first place of an equal step among those listed, or 0. No work table is read, so that it is right on any contents.
+static size_t find_step(const Engine *e, size_t u, size_t v, size_t key)
+{
+    for (size_t at = 0; at < e->steps; at += BLOCK) {
+        size_t end = e->steps - at < BLOCK ? e->steps : at + BLOCK;
+        if (!ends_among(e->from + at, e->to + at, end - at, (uint16_t)u, (uint16_t)v)) continue;
+        for (size_t p = at; p < end; p++)
+            if (equal_at(e, p, u, v, key)) return p + 1;
+    }
+    return 0;
+}
+
+// A look along some steps out of u: a repeat is mostly found here. What it finds is listed, whatever the work tables hold.
+static int found_soon(const Engine *e, size_t u, size_t v, size_t key)
+{
+    size_t left = QUICK;
+    for (size_t p = first_of(e->out_head, u, e->steps); p > 0; p = after(e->out_next, p)) {
+        if (equal_at(e, p - 1, u, v, key)) return 1;
+        if (--left == 0) return 0;
+    }
+    return 0;
+}
+
+static int is_repeat(const Engine *e, size_t u, size_t v, size_t key)
+{
+    return found_soon(e, u, v, key) || find_step(e, u, v, key) > 0;
 }
 
 // ---- the closure along steps backwards
@@ -216,6 +267,14 @@ static size_t find_dead(const Engine *e, size_t u)
     return settle(e, span, DEAD);
 }
 
+// A repeat names its states like any step, takes no place and settles nothing.
+static size_t repeat(const Engine *e, size_t u, size_t v)
+{
+    name(e, u);
+    name(e, v);
+    return 0;
+}
+
 static size_t step(Engine *e, size_t u, size_t v, size_t key)
 {
     size_t p = e->steps++;
@@ -249,11 +308,20 @@ static size_t close_state(const Engine *e, size_t u)
     return 0;
 }
 
+// A step to which none of 5, 14 and 6 applies: 9 is for one that is not listed.
+static uint32_t send_step(Engine *e, size_t u, size_t v, size_t key)
+{
+    if (is_repeat(e, u, v, key)) return (uint32_t)repeat(e, u, v);
+    if (e->steps == e->limit) return REFUSED + 9;
+    return (uint32_t)step(e, u, v, key);
+}
+
 static uint32_t send(Engine *e, uint8_t kind, size_t first, size_t second, size_t key)
 {
     int number = kind == 'E' ? refused_step(e, first, second, key) : kind == 'T' ? refused_terminal(e, first) : refused_close(e, first);
     if (number) return REFUSED + (uint32_t)number;
-    return (uint32_t)(kind == 'E' ? step(e, first, second, key) : kind == 'T' ? terminal(e, first) : close_state(e, first));
+    if (kind == 'E') return send_step(e, first, second, key);
+    return (uint32_t)(kind == 'T' ? terminal(e, first) : close_state(e, first));
 }
 
 // Flattened into one function, in which the tables stay in registers: faster than with calls.

@@ -148,6 +148,12 @@ static void too_many(void)
     for (names(); lines < 2 * LINES;) step(below(MAX_STATES), below(MAX_STATES));
 }
 
+// As many different steps as are listed, all of them again and again.
+static void steps_again(void)
+{
+    for (names(); lines < LINES;) step_by(lines % MAX_STATES, (lines + 1) % MAX_STATES, lines % MAX_STATES % (MAX_KEY + 1));
+}
+
 static const struct {
     const char *name;
     void (*make)(void);
@@ -167,6 +173,7 @@ static const struct {
     {"10 at line 1, the rest not read", wrong_names},
     {"12 at line 65,536, the rest not read", too_many},
     {"the names line alone", names_alone},
+    {"2,048 steps, each again and again", steps_again},
 };
 
 enum { KINDS = sizeof kinds / sizeof *kinds };

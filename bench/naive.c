@@ -1,5 +1,5 @@
-// The naive engine: the same tables and the same call, every verdict worked out afresh after each accepted update by two searches
-// over all states and steps.
+// The naive engine: the same tables and the same call, every verdict worked out afresh by two searches over all states and steps after
+// each accepted update but a repeated step, which is looked for place by place.
 #include "engines.h"
 
 typedef struct {
@@ -63,21 +63,29 @@ static size_t classify(Naive *e)
     return count;
 }
 
-static int refused(size_t n, size_t limit, size_t steps, const uint8_t *marks, uint8_t kind, size_t first, size_t second, size_t key)
+static int refused(size_t n, const uint8_t *marks, uint8_t kind, size_t first, size_t second, size_t key)
 {
     if (first >= n || (kind == 'E' && second >= n)) return 5;
     if (kind == 'E' && key > MAX_KEY) return 14;
-    if (kind != 'C' && (marks[first] & CLOSED)) return 6;
-    return kind == 'E' && steps == limit ? 9 : 0;
+    return kind != 'C' && (marks[first] & CLOSED) ? 6 : 0;
+}
+
+static int listed(size_t steps, const uint16_t *from, const uint16_t *to, const uint8_t *key, size_t u, size_t v, size_t by_key)
+{
+    for (size_t p = 0; p < steps; p++)
+        if (from[p] == u && to[p] == v && key[p] == by_key) return 1;
+    return 0;
 }
 
 uint32_t naive_update(PARAMETERS)
 {
     (void)status_len, (void)marks_len, (void)from_len, (void)to_len, (void)key_len, (void)successor_len, (void)news_len;
     (void)in_head_len, (void)out_head_len, (void)queue_len, (void)visited_len, (void)in_next_len, (void)out_next_len;
-    int number = refused(n, limit, *steps, marks, kind, first, second, by_key);
+    int number = refused(n, marks, kind, first, second, by_key);
     if (number) return REFUSED + (uint32_t)number;
     if (kind == 'C' && (marks[first] & CLOSED)) return 0;
+    if (kind == 'E' && listed(*steps, from, to, key, first, second, by_key)) return 0;
+    if (kind == 'E' && *steps == limit) return REFUSED + 9;
     marks[first] |= kind == 'E' ? NAMED : kind == 'T' ? NAMED | TERMINAL : NAMED | CLOSED;
     if (kind == 'E') {
         size_t p = (*steps)++;

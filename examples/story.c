@@ -5,7 +5,7 @@
 #include <stdio.h>
 #include <stdlib.h>
 
-enum { PAUSED, AUTOLAP, RUN_SCREEN, STATES, LIMIT = 4 };
+enum { PAUSED, AUTOLAP, RUN_SCREEN, STATES, LIMIT = 3 };
 enum { START_KEY, LAP_KEY };
 
 static const char *const names[STATES] = {"paused", "autolap", "run screen"};
@@ -57,6 +57,9 @@ int main(void)
     step(&t, PAUSED, AUTOLAP, LAP_KEY);
     step(&t, AUTOLAP, PAUSED, START_KEY);
     step(&t, AUTOLAP, RUN_SCREEN, LAP_KEY);
+    printf("(the list of %d is full; a press that is listed may come again, another may not)\n", LIMIT);
+    step(&t, PAUSED, AUTOLAP, LAP_KEY);
+    step(&t, PAUSED, AUTOLAP, START_KEY);
     close_state(&t, PAUSED);
     close_state(&t, AUTOLAP);
     verdicts(&t);

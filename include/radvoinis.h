@@ -20,10 +20,12 @@
 
    Stack: radvoinis_status takes 48 KiB, since its tables are local; every other call less than 1 KiB.
 
-   Cost: a step or a terminal mark that makes nothing live takes constant time; one that does walks the steps into each state that it
-   makes live, once, and looks at the numbers between the least and the greatest of them. A close looks at the steps out of its
-   state, and at no more than 17 states along each; where it meets no open state there, it searches the unknown states whose way out
-   led through it, with their steps, at the very most all states and steps. Tens of nanoseconds an update: bench/RESULTS.md. */
+   Cost: a step is looked for among a few out of its source and, where it is none of them, in the whole list, many entries at a time:
+   a repeat is mostly found at once, a new step reads the list. Beyond that a step or a terminal mark that makes nothing live takes
+   constant time; one that does walks the steps into each state that it makes live, once, and looks at the numbers between the least
+   and the greatest of them. A close looks at the steps out of its state, and at no more than 17 states along each; where it meets no
+   open state there, it searches the unknown states whose way out led through it, with their steps, at the very most all states and
+   steps. Tens of nanoseconds an update, and for a new step behind thousands of others some hundreds: bench/RESULTS.md. */
 #ifndef RADVOINIS_H
 #define RADVOINIS_H
 
@@ -43,7 +45,8 @@ extern "C" {
 #define RADVOINIS_MAX_STATES 2048u
 #define RADVOINIS_MAX_STEPS 8192u
 
-/* Each step has a key, from 0 to this. Two steps that differ only in key are two steps; a key changes no verdict. */
+/* Each step has a key, from 0 to this. Two steps that differ only in key are two steps; a key changes no verdict. A step that is equal in
+   from, to and key to a listed one is a repeat: it is accepted, and takes no place in the list. */
 #define RADVOINIS_MAX_KEY 31u
 
 /* A refusal answers this plus its number. */
@@ -61,7 +64,7 @@ enum radvoinis_refusal {
     RADVOINIS_OUT_OF_RANGE = 5,    /* a state is n or more */
     RADVOINIS_BAD_KEY = 14,        /* the key of a step is above 31 */
     RADVOINIS_CLOSED_SOURCE = 6,   /* a step or a terminal mark from a closed state */
-    RADVOINIS_LIST_FULL = 9,       /* a step where the list is full */
+    RADVOINIS_LIST_FULL = 9,       /* a step that is not listed where the list is full */
     RADVOINIS_BAD_NAMES = 10,      /* a record's first line is neither "kind from to" nor "kind from to key" */
     RADVOINIS_MALFORMED = 11,      /* a line of a record is no update; a kind that is none of E, T and C */
     RADVOINIS_TOO_MANY_LINES = 12, /* a record has more than 65,535 lines */
@@ -98,7 +101,7 @@ typedef struct radvoinis_tables {
     size_t steps; /* the number of listed steps */
     uint8_t *status;     /* n: an enum radvoinis_status_byte each */
     uint8_t *marks;      /* n: the sum of an enum radvoinis_mark's bits each */
-    uint16_t *from;      /* limit: the listed steps, of which the first `steps` count */
+    uint16_t *from;      /* limit: the listed steps, of which the first `steps` count; no two of these are equal */
     uint16_t *to;        /* limit */
     uint8_t *key;        /* limit: 0 to 31 each */
     uint16_t *successor; /* n: for an unknown state, a step by which an open one is reached */
@@ -121,7 +124,8 @@ uint32_t radvoinis_tables_fresh(radvoinis_tables *t, void *memory, size_t size, 
 
 /* The updates: a step from state to state, by key 0 or by a key that is sent, a terminal mark, a close. Each answers the number of its
    news, which stand in the front of t->news, or RADVOINIS_REFUSED plus the number of its refusal (1 to 6, 9, 14), and then changes
-   nothing. A close of a closed state answers 0 and changes nothing either. */
+   nothing. A step that is listed already, by the same key, answers 0 and takes no place, also where the list is full; a close of a
+   closed state answers 0. Neither changes anything. */
 uint32_t radvoinis_step(radvoinis_tables *t, uint32_t from, uint32_t to);
 uint32_t radvoinis_step_by_key(radvoinis_tables *t, uint32_t from, uint32_t to, uint32_t key);
 uint32_t radvoinis_terminal(radvoinis_tables *t, uint32_t state);
@@ -149,6 +153,8 @@ uint8_t radvoinis_status(const uint8_t *record, size_t record_len, uint32_t stat
    'C' (a close of first); second and by_key are a step's alone. Answers the number of its news, which stand in the front of the news
    list, and brings *steps up to date; or RADVOINIS_REFUSED plus the number of its refusal (1 to 6, 9, 14; 11 for any other kind,
    tested behind 1 to 4), and changes nothing. A close of a closed state answers 0 and changes nothing either, whatever the tables hold.
+   A step that is equal to one of the *steps listed answers 0, also where the list is full, and names its two states: where the tables
+   fit, they are named, and nothing changes.
    Needed lengths: n for status, marks, successor, news, in_head, out_head, queue, visited; limit for from, to, key, in_next, out_next.
    Fresh tables are all zero, with 65,535 in every successor entry; *steps is 0. */
 uint32_t radvoinis_update(size_t n, size_t limit, size_t *steps, uint8_t kind, size_t first, size_t second, size_t by_key,
@@ -165,7 +171,8 @@ uint32_t radvoinis_state_status(size_t n, size_t limit, size_t steps, const uint
 /* The length of the news part: count, or 0 where count is above the list's length. */
 size_t radvoinis_news_len(const uint16_t *news, size_t news_len, size_t count);
 
-/* The table check: 1 where the tables fit (some legal history gives them, and the work tables fit), 0 where they do not; or
+/* The table check: 1 where the tables fit (some legal history gives them, so that no two listed steps are equal, and the work tables
+   fit), 0 where they do not; or
    RADVOINIS_REFUSED plus the number of the refusal (1 to 4), and changes nothing. It writes queue and visited alone, below n;
    after a 1 no state is marked visited. */
 uint32_t radvoinis_audit(size_t n, size_t limit, size_t steps,

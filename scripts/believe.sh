@@ -55,6 +55,7 @@ table() {
     row "dead in two forms" gid/Verdicts
     row '`Engine::update`' engine/Promise
     row '`Graph::status`' tables/Refused
+    row '`steplist::find_step`' steplist/Places tables/Listing
     row '`audit`' audit/Audited
     row '`Splitter`, `Line`' record/Splitting record/Items
     row '`reader::open`' reader/Opening

@@ -186,7 +186,7 @@ static void hold_round_trip(Lent *l, int list, size_t states)
 static void group_sample(void)
 {
     static const Update updates[] = {{'E', 0, 1, 31}, {'T', 2, 0, 0}, {'E', 1, 0, 7}, {'C', 1, 0, 0}, {'T', 0, 0, 0},
-                                     {'E', 0, 2, 0},  {'E', 0, 1, 8}, {'E', 0, 1, 32}, {'C', 2, 0, 0}};
+                                     {'E', 0, 2, 0},  {'E', 0, 1, 31}, {'E', 0, 1, 8}, {'E', 0, 1, 32}, {'E', 0, 2, 0}, {'C', 2, 0, 0}};
     static const char sample[] = "kind from to key\nT 0 - -\nT 2 - -\nE 0 1 31\nE 1 0 7\nE 0 2 0\nE 0 1 8\nC 1 - -\nC 2 - -\n";
     Lent *l = &lent_a;
     shown_history = NULL;
@@ -253,7 +253,7 @@ static void group_runs_large(void)
 }
 
 // Every key byte, also those that no tables that fit have: of a step whose ends have as many digits as a state can, or as an entry can,
-// beside others that differ from it only in key, of which those behind the list are not written.
+// beside others that differ from it only in key, or not at all, which no tables that fit have either. Those behind the list are not written.
 static void group_keys(void)
 {
     static const size_t ends[][2] = {{0, 0}, {3, 12}, {2047, 999}, {65535, 65535}};
@@ -264,14 +264,14 @@ static void group_keys(void)
     for (size_t i = 0; i < 256 * 4 && !failed; i++) {
         for (size_t p = 0; p < 4; p++) {
             table_set(&l->table[FROM], p, ends[i % 4][0]), table_set(&l->table[TO], p, ends[i % 4][1]);
-            table_set(&l->table[KEY], p, p == 1 ? i / 4 : below(256));
+            table_set(&l->table[KEY], p, p == 1 || one_in(4) ? i / 4 : below(256));
         }
         l->steps[1] = 1 + below(3);
         hold_buffers(l);
     }
 }
 
-// The same by updates, and back: three steps that differ only in key.
+// The same by updates, and back: three steps that differ only in key, each sent twice.
 static void group_keys_back(void)
 {
     Lent *l = &lent_a;
@@ -279,7 +279,7 @@ static void group_keys_back(void)
     for (size_t key = 0; key <= MOST_KEY && !failed; key++) {
         lent_size(l, 13, 3, 2);
         lent_fresh(l);
-        for (size_t p = 0; p < 3; p++) lent_update(l, (Update){'E', 3, 12, (key + p) % (MOST_KEY + 1)});
+        for (size_t p = 0; p < 6; p++) lent_update(l, (Update){'E', 3, 12, (key + p % 3) % (MOST_KEY + 1)});
         check(CHECK_SAMPLE, l->steps[1] == 3);
         hold_buffers(l);
         hold_round_trip(l, 1, 4);

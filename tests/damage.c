@@ -18,6 +18,7 @@ typedef enum {
     CHECK_GOES_ON,
     CHECK_WRITTEN_FITS,
     CHECK_KEYS,
+    CHECK_COPIES,
     CHECK_DEFINITION,
     CHECKS
 } Check;
@@ -30,6 +31,7 @@ static const char *const check_names[CHECKS] = {
     "a run with checks in between: same answers, news and tables",
     "tables written for a history fit",
     "a listed key above 31 is found, a key behind the list is not looked at",
+    "two equal steps are found; steps that are equal but for one of from, to and key fit",
     "the definition is what every short history gives",
 };
 
@@ -114,15 +116,14 @@ static void give(const History *h)
     Short x = {0};
     reference_marks(h, x.marks);
     reference_statuses(h, x.status);
-    for (size_t i = 0; i < h->count; i++) {
-        if (h->accepted[i].kind != 'E') continue;
-        x.from[x.steps] = (uint16_t)h->accepted[i].first, x.to[x.steps] = (uint16_t)h->accepted[i].second;
-        x.key[x.steps++] = (uint8_t)h->accepted[i].key;
+    for (; x.steps < h->steps; x.steps++) {
+        Update u = h->listed[x.steps];
+        x.from[x.steps] = (uint16_t)u.first, x.to[x.steps] = (uint16_t)u.second, x.key[x.steps] = (uint8_t)u.key;
     }
     given[short_number(&x)] = 1;
 }
 
-// Every legal history of up to `updates` more updates with at most two steps.
+// Every legal history of up to `updates` more updates that lists at most two steps.
 static void give_every(History *h, int updates)
 {
     uint8_t marks[2];
@@ -130,9 +131,10 @@ static void give_every(History *h, int updates)
     reference_marks(h, marks);
     for (size_t i = 0; i < updates_over(2) && updates > 0; i++) {
         Update u = nth_update(2, i);
-        if (!reference_legal(marks, u) || (u.kind == 'E' && h->steps == 2)) continue;
+        if (!reference_legal(marks, u)) continue;
         for (size_t k = 0; k < (u.kind == 'E' ? 2 : 1); k++) {
             u.key = short_keys[k];
+            if (u.kind == 'E' && h->steps == 2 && !history_lists(h, u)) continue;
             history_add(h, u);
             give_every(h, updates - 1);
             history_drop(h);
@@ -221,6 +223,7 @@ static void two_states(const uint8_t *status)
         size_t k = i;
         for (size_t p = 0; p < 2; p++) put(&lent_a, FROM, p, digit(&k, 3)), put(&lent_a, TO, p, digit(&k, 3));
         for (size_t p = 0; p < 2; p++) put(&lent_a, KEY, p, one_in(16) ? MOST_KEY + 1 : some_key());
+        if (one_in(4)) put(&lent_a, KEY, 1, table_get(&lent_a.table[KEY], 0));
         lent_a.steps[1] = digit(&k, 3);
         if (lent_a.steps[1] < 2 && (words(&lent_a, FROM)[1] || words(&lent_a, TO)[1])) continue;
         if (lent_a.steps[1] < 1 && (words(&lent_a, FROM)[0] || words(&lent_a, TO)[0])) continue;
@@ -375,13 +378,23 @@ static void group_every_damage_later(void)
 
 // ---- keys
 
+// Whether a place has a step that is equal to that of another, of which both are listed.
+static int is_copy(const Lent *l, size_t p)
+{
+    const uint16_t *from = words(l, FROM), *to = words(l, TO);
+    const uint8_t *key = bytes(l, KEY);
+    for (size_t q = 0; q < l->steps[1] && p < l->steps[1]; q++)
+        if (q != p && from[q] == from[p] && to[q] == to[p] && key[q] == key[p]) return 1;
+    return 0;
+}
+
 static void damage_key(Lent *l, size_t p)
 {
     static const size_t above[] = {MOST_KEY + 1, MOST_KEY + 2, 63, 64, 127, 128, 254, 255};
     size_t was = table_get(&l->table[KEY], p), i = below(sizeof above / sizeof *above);
     for (size_t k = 0; k < 2; k++) {
         put(l, KEY, p, k ? above[i] : some_key());
-        check(CHECK_KEYS, fit(l) == (k == 0 || p >= l->steps[1]));
+        check(CHECK_KEYS, fit(l) == (p >= l->steps[1] || (k == 0 && !is_copy(l, p))));
         memset(words(l, VISITED), 0, 2 * l->n);
     }
     put(l, KEY, p, was);
@@ -558,13 +571,8 @@ static void write_statuses(Lent *l, const History *h) { reference_statuses_quick
 
 static void write_steps(Lent *l, const History *h)
 {
-    size_t p = 0;
-    for (size_t i = 0; i < h->count; i++)
-        if (h->accepted[i].kind == 'E') {
-            put(l, FROM, p, h->accepted[i].first), put(l, TO, p, h->accepted[i].second);
-            put(l, KEY, p++, h->accepted[i].key);
-        }
-    l->steps[1] = p;
+    for (size_t p = 0; p < h->steps; p++) lent_list(l, p, h->listed[p]);
+    l->steps[1] = h->steps;
 }
 
 // For each state that the table calls unknown any step by which it comes nearer to an open state: passes over the listed steps, from
@@ -593,17 +601,18 @@ static void write_tables(Lent *l, const History *h)
     write_successors(l), write_work(l);
 }
 
-// The same history but for one update, which is gone, doubled or another.
+// The same history but for one update, which is gone, doubled or another; no more steps than the limit allows.
 static void neighbour(History *h, const History *of)
 {
     size_t other = below(of->count + 1), how = below(3);
     history_start(h, of->n, of->limit);
     for (size_t i = 0; i < of->count; i++) {
         Update u = of->accepted[i];
-        if (i == other && how == 1 && (u.kind != 'E' || of->steps < of->limit)) history_add(h, u);
+        if (i == other && how == 1) history_add(h, u);
         if (i == other && how == 2 && one_in(3)) u.key = below(MOST_KEY + 2);
         else if (i == other && how == 2) *(one_in(2) ? &u.first : &u.second) = below(of->n);
-        if (i != other || how > 0) history_add(h, u);
+        if ((i == other && how == 0) || (u.kind == 'E' && h->steps == h->limit && !history_lists(h, u))) continue;
+        history_add(h, u);
     }
 }
 
@@ -642,6 +651,92 @@ static void group_written(void)
         if (i % 2000 == 0) written_round(2048 - below(3), 8192 - below(3), 8000);
         else if (i % 100 == 0) written_round(13 + below(200), 1 + below(800), 600);
         else written_round(1 + below(10), 1 + below(20), below(40));
+    }
+}
+
+// ---- copies: tables that would fit, but for two equal steps
+
+// A step of the list comes again at a place of it, and those from there on move by one; all else is as the history has it.
+static void hold_copy(Lent *l, const History *h, size_t of, size_t place)
+{
+    for (size_t p = 0; p <= h->steps; p++) lent_list(l, p, p == place ? h->listed[of] : h->listed[p < place ? p : p - 1]);
+    l->steps[1] = h->steps + 1;
+    write_successors(l), write_work(l);
+    check(CHECK_COPIES, !fit(l));
+}
+
+// The tables of a history whose steps stand before its closes; and the same with copies: of every step at every place, or of some.
+static void hold_copies(const History *h, size_t some)
+{
+    Lent *l = &lent_a;
+    size_t all = h->steps * (h->steps + 1), limit = h->steps + 1 + below(3);
+    lent_size(l, h->n, limit < MOST_STEPS ? limit : MOST_STEPS, 4);
+    shown_history = h;
+    write_tables(l, h);
+    check(CHECK_COPIES, fit(l));
+    for (size_t i = 0; i < (some ? some : all) && !failed; i++) {
+        size_t k = some ? below(all) : i;
+        hold_copy(l, h, k / (h->steps + 1), k % (h->steps + 1));
+    }
+    if (some && !failed) hold_copy(l, h, 0, h->steps), hold_copy(l, h, h->steps - 1, 0), hold_copy(l, h, h->steps - 1, h->steps);
+}
+
+// Of two steps that differ in one of from, to and key, by every pair of keys: they fit, and a copy of either does not. The ends are all
+// choices among three states, a step to itself among them.
+static void group_copies_of_two(void)
+{
+    static History h;
+    for (size_t i = 0; i < 32 * 32 * 9 * 3 && !failed; i++) {
+        size_t k = i, key = digit(&k, 32), other_key = digit(&k, 32), from = digit(&k, 3), to = digit(&k, 3), other = 1 + below(2);
+        Update u = {'E', from, to, key}, near = u;
+        if (k == 0) near.key = other_key;
+        if (k == 1) near.first = (from + other) % 3;
+        if (k == 2) near.second = (to + other) % 3;
+        progress(i, 32 * 32 * 9 * 3);
+        if (k > 0 && other_key % 8) continue;
+        history_start(&h, 3, 4);
+        history_add(&h, u), history_add(&h, near);
+        if (one_in(2)) history_add(&h, (Update){"TC"[below(2)], below(3), 0, 0});
+        hold_copies(&h, 0);
+    }
+}
+
+// Every copy in lists of a few steps between few states, by few keys of both halves and by all, so that most differ from others in one of
+// the three alone.
+static void group_copies_small(void)
+{
+    static History h;
+    for (size_t i = 0; i < rounds(1500) && !failed; i++) {
+        size_t n = 1 + below(4), few = one_in(2);
+        progress(i, rounds(1500));
+        history_start(&h, n, 16);
+        if (one_in(3)) history_add(&h, (Update){'T', below(n), 0, 0});
+        for (size_t k = 1 + below(12); k > 0; k--) {
+            size_t key = few ? 5 + 16 * below(2) + below(2) : below(MOST_KEY + 1);
+            history_add(&h, (Update){'E', below(n), below(n), key});
+        }
+        for (size_t s = 0; s < n; s++)
+            if (one_in(2)) history_add(&h, (Update){'C', s, 0, 0});
+        hold_copies(&h, 0);
+    }
+}
+
+// Copies near and far in long lists: all steps into one state, all out of one, between two states in turn, or between any.
+static void group_copies_large(void)
+{
+    static History h;
+    for (size_t i = 0; i < rounds(40) && !failed; i++) {
+        size_t n = 2 + below(one_in(2) ? 300 : 2047), steps = i % 8 == 0 ? MOST_STEPS - 1 : 1 + below(i % 8 == 1 ? MOST_STEPS - 1 : 2000);
+        progress(i, rounds(40));
+        history_start(&h, n, MOST_STEPS);
+        for (size_t p = 0; p < steps; p++) {
+            size_t spread = p / (MOST_KEY + 1) % n, key = p % (MOST_KEY + 1);
+            Update into = {'E', spread, n - 1, key}, out = {'E', n - 1, spread, key}, any = {'E', below(n), below(n), below(MOST_KEY + 1)};
+            history_add(&h, i % 4 == 0 ? into : i % 4 == 1 ? out : i % 4 == 2 && p % 2 ? into : any);
+        }
+        for (size_t s = 0; s < n; s++)
+            if (one_in(3)) history_add(&h, (Update){'C', s, 0, 0});
+        hold_copies(&h, 20);
     }
 }
 
@@ -705,6 +800,9 @@ static const Group groups[] = {
     {"random damages, up to 12 states", group_damage_small},
     {"random damages, up to 2,048 states", group_damage_large},
     {"tables written for a history, mixed with another's", group_written},
+    {"two equal steps beside two that are nearly so, by every pair of keys", group_copies_of_two},
+    {"two equal steps, at every two places of short lists", group_copies_small},
+    {"two equal steps near and far, in lists of up to 8,192", group_copies_large},
     {"refusals: n, limit, steps and lengths", group_refusals},
     {"tables of random contents", group_contents},
     {"tables of a run, some entries overwritten", group_overwritten},

@@ -9,10 +9,9 @@ static void choose(const Reading *r, uint8_t *bold)
     for (size_t s = 0; s < MOST_STATES; s++) near[s] = r->status[s] == OPEN;
     for (int more = 1; more;) {
         more = 0;
-        for (size_t i = 0, p = 0; i < r->history.count; i++) {
-            Update u = r->history.accepted[i];
-            if (u.kind == 'E' && r->status[u.first] == UNKNOWN && !near[u.first] && near[u.second]) near[u.first] = bold[p] = 1, more = 1;
-            p += u.kind == 'E';
+        for (size_t p = 0; p < r->history.steps; p++) {
+            Update u = r->history.listed[p];
+            if (r->status[u.first] == UNKNOWN && !near[u.first] && near[u.second]) near[u.first] = bold[p] = 1, more = 1;
         }
     }
 }

@@ -19,12 +19,11 @@ static void write_state(size_t s, uint8_t status, uint8_t marks, FILE *picture)
 
 void drawing_write(const Reading *r, const uint8_t *bold, FILE *picture)
 {
-    size_t p = 0;
     fprintf(picture, "%s", opening);
     for (size_t s = 0; s < MOST_STATES; s++) write_state(s, r->status[s], r->marks[s], picture);
-    for (size_t i = 0; i < r->history.count; i++) {
-        Update u = r->history.accepted[i];
-        if (u.kind == 'E') fprintf(picture, "  %zu -> %zu [label=\"%zu\"%s\n", u.first, u.second, u.key, bold[p++] ? bold_end : "];");
+    for (size_t p = 0; p < r->history.steps; p++) {
+        Update u = r->history.listed[p];
+        fprintf(picture, "  %zu -> %zu [label=\"%zu\"%s\n", u.first, u.second, u.key, bold[p] ? bold_end : "];");
     }
     fprintf(picture, "}\n");
 }
@@ -51,16 +50,13 @@ void drawing_bold(const Reading *r, const uint8_t *picture, size_t length, uint8
 size_t drawing_leads(const Reading *r, const uint8_t *bold)
 {
     uint16_t from[MOST_STEPS], to[MOST_STEPS], successor[MOST_STATES];
-    size_t p = 0;
     memset(successor, 255, sizeof successor);
-    for (size_t i = 0; i < r->history.count; i++) {
-        Update u = r->history.accepted[i];
-        if (u.kind != 'E') continue;
+    for (size_t p = 0; p < r->history.steps; p++) {
+        Update u = r->history.listed[p];
         if (bold[p] && successor[u.first] != NO_SUCCESSOR) return 0;
         if (bold[p]) successor[u.first] = (uint16_t)p;
         from[p] = (uint16_t)u.first, to[p] = (uint16_t)u.second;
-        p++;
     }
-    Tables t = {.n = MOST_STATES, .steps = p, .status = r->status, .from = from, .to = to, .successor = successor};
+    Tables t = {.n = MOST_STATES, .steps = r->history.steps, .status = r->status, .from = from, .to = to, .successor = successor};
     return fits_successors(&t);
 }

@@ -63,7 +63,8 @@ static void hold_record(size_t piece)
 }
 
 // ---- samples, in which there is one choice of successors; the fourth has terminal states, which are live, open and closed in their marks,
-// beside live states that are not terminal and refused marks; the last ones have steps that differ only in key, and keys that are refused
+// beside live states that are not terminal and refused marks; the last ones have steps that differ only in key, keys that are refused, and
+// steps that come again
 
 typedef struct {
     Form form;
@@ -93,8 +94,10 @@ static const Sample samples[] = {
      "  2 -> 0 [label=\"9\", style=bold];\n  1 -> 1 [label=\"10\"];\n"},
     {WITH_KEYS, "E 2047 2046 30\nC 2047 - -\nC 2046 - -\nE 2046 0 30\nE 5 2047 31\nE 5 2047 31\nT 5 - -\n",
      "  5 [label=\"5 live\", fillcolor=\"#a8dba0\", peripheries=2];\n  2046 [label=\"2046 dead\", fillcolor=\"#f0a8a0\"];\n"
-     "  2047 [label=\"2047 dead\", fillcolor=\"#f0a8a0\"];\n  2047 -> 2046 [label=\"30\"];\n  5 -> 2047 [label=\"31\"];\n"
-     "  5 -> 2047 [label=\"31\"];\n"},
+     "  2047 [label=\"2047 dead\", fillcolor=\"#f0a8a0\"];\n  2047 -> 2046 [label=\"30\"];\n  5 -> 2047 [label=\"31\"];\n"},
+    {WITHOUT_KEYS, "E 0 1\nE 0 1\nE 1 0\nE 0 1\nE 1 0\nC 0 -\nE 0 1\n",
+     "  0 [label=\"0 unknown\", fillcolor=\"#ffe08a\"];\n  1 [label=\"1 open\", fillcolor=\"#ffffff\"];\n"
+     "  0 -> 1 [label=\"0\", style=bold];\n  1 -> 0 [label=\"0\"];\n"},
 };
 
 static void group_samples(void)
@@ -203,6 +206,7 @@ static void group_fullest(void)
 
 static void group_valid(void) { valid_records(rounds(300), hold_record); }
 static void group_full_list(void) { full_records(rounds(20), hold_record); }
+static void group_repeated(void) { repeated_records(rounds(150), hold_record); }
 static void group_damaged(void) { damaged_records(rounds(600), hold_record); }
 static void group_noise(void) { noisy_records(rounds(100), hold_record); }
 static void group_awkward(void) { awkward_records(hold_record); }
@@ -231,6 +235,7 @@ static const Group groups[] = {
     {"as many terminal states and steps as there can be", group_fullest},
     {"valid records", group_valid},
     {"records up to the step limit and past it", group_full_list},
+    {"repeated steps, up to 65,535 lines of which 2,048 steps differ", group_repeated},
     {"damaged records", group_damaged},
     {"lines of random bytes", group_noise},
     {"lines at the edges of the grammar", group_awkward},

@@ -2,7 +2,7 @@
 # Plants faults in the calls and the programs in plain C (the engine of bench/baseline.c; tests/calls.c, tests/lister.c and
 # tests/drawer.c over the naive definitions; the short calls of c/tables.c), one at a time, and runs the suite that must catch them on
 # each, shortened: it must, and each suite must pass what has no fault. With names of suites as arguments, those faults alone; with
-# --few, nineteen of all suites. All take about fifteen minutes, the few one. The last line is 'N passed, M failed'.
+# --few, twenty-one of all suites. All take about fifteen minutes, the few one. The last line is 'N passed, M failed'.
 set -u
 cd "$(dirname "$0")/.." || exit 2
 . tests/suites.sh
@@ -90,7 +90,7 @@ done
 # verdicts
 fault "turns every update away" 's/    if (number) return REFUSED + (uint32_t)number;/    return REFUSED + 9;/'
 fault "says open for ever" 's/return settle(e, spread(e, LIVE_SOURCES, u), LIVE);/return 0;/; s/return find_dead(e, u);/return e->status[u] = OPEN, 0;/'
-fault "returns its tables untouched" 's/    return (uint32_t)(kind == .E. ? step.*/    return 0;/'
+fault "returns its tables untouched" 's/    if (kind == .E.) return send_step(.*/    return 0;/'
 fault "judges the first step and then echoes" 's/^    if (\*steps > limit).*/&\n    if (*steps > 0) return 0;/'
 few=1 fault "a ring is dead although a step leads out of it" 's/    rescue(e, escapes(e, span.len));//'
 fault "no rescue of those behind an escape" 's/rescue(e, escapes(e, span.len))/escapes(e, span.len)/'
@@ -127,7 +127,6 @@ fault "visited stays behind a release" "$(within release 's/    e->visited\[x\] 
 fault "a step into the wrong list" 's/push(e->in_head, e->in_next, v, p);/push(e->in_head, e->in_next, u, p);/'
 fault "a step out of the wrong list" 's/push(e->out_head, e->out_next, u, p);/push(e->out_head, e->out_next, v, p);/'
 fault "a step to itself is not listed" "$(within step 's/    size_t p = e->steps++;/    if (u == v) return name(e, u), 0; size_t p = e->steps++;/')"
-fault "an equal step is not listed" "$(within step 's/    size_t p = e->steps++;/    if (e->steps > 0 \&\& e->from[e->steps - 1] == u \&\& e->to[e->steps - 1] == v) return 0; size_t p = e->steps++;/')"
 fault "a step does not name its target" "$(within step 's/    name(e, v);//')"
 fault "no terminal mark" 's/    e->marks\[u\] |= TERMINAL;//'
 fault "no closed mark" 's/    e->marks\[u\] |= CLOSED;//'
@@ -147,10 +146,11 @@ fault "writes before the marks" "$(within settle 's/    size_t count = 0;/    si
 
 # refusals
 few=1 fault "a refusal names its state" 's/    if (number) return REFUSED + (uint32_t)number;/    if (number \&\& first < e->n) e->marks[first] |= NAMED;\n&/'
-fault "a refusal counts a step" 's/    if (number) return REFUSED + (uint32_t)number;/    if (number == 9) e->steps++;\n&/'
-fault "9 with a place free" 's/e->steps == e->limit ? 9 : 0/e->steps + 1 >= e->limit ? 9 : 0/'
-fault "no 9" 's/e->steps == e->limit ? 9 : 0/0/'
-fault "9 before 6" "$(within refused_step 's/    int number/    if (e->steps == e->limit) return 9;\n&/')"
+fault "a refusal counts a step" 's/    if (e->steps == e->limit) return REFUSED + 9;/    if (e->steps == e->limit) return e->steps++, REFUSED + 9;/'
+fault "a 9 names its states" 's/    if (e->steps == e->limit) return REFUSED + 9;/    if (e->steps == e->limit) return repeat(e, u, v), REFUSED + 9;/'
+fault "9 with a place free" 's/if (e->steps == e->limit) return REFUSED + 9;/if (e->steps + 1 >= e->limit) return REFUSED + 9;/'
+fault "no 9" 's/    if (e->steps == e->limit) return REFUSED + 9;//'
+fault "9 before 6" "$(within send 's/^    int number/    if (kind == 69 \&\& first < e->n \&\& second < e->n \&\& key <= MAX_KEY \&\& e->steps == e->limit \&\& !is_repeat(e, first, second, key)) return REFUSED + 9;\n&/')"
 fault "9 for a terminal mark" "$(within refused_terminal 's/return refused_source(e, u);/return e->steps == e->limit ? 9 : refused_source(e, u);/')"
 fault "6 before 5" "$(within refused_step 's/    if (u >= e->n || v >= e->n) return 5;/    if (u >= e->n) return 5; if (e->marks[u] \& CLOSED) return 6; if (v >= e->n) return 5;/')"
 fault "6 for a close again" "$(within refused_close 's/return u >= e->n ? 5 : 0;/return u >= e->n ? 5 : e->marks[u] \& CLOSED ? 6 : 0;/')"
@@ -172,8 +172,8 @@ fault "31 is no key" 's/key > MAX_KEY/key >= MAX_KEY/'
 fault "no 14" 's/    if (key > MAX_KEY) return 14;//'
 fault "a refused key is kept" 's/    if (key > MAX_KEY) return 14;/    if (key > MAX_KEY) return e->steps < e->limit ? e->key[e->steps] = (uint8_t)key : 0, 14;/'
 fault "14 before 5" "$(within refused_step '/return 14;/d; s/    if (u >= e->n || v >= e->n) return 5;/    if (key > MAX_KEY) return 14;\n&/')"
-fault "6 before 14" "$(within refused_step '/return 14;/d; s/    if (number) return number;/&\n    if (key > MAX_KEY) return 14;/')"
-fault "9 before 14" "$(within refused_step 's/    if (key > MAX_KEY) return 14;/    if (e->steps == e->limit \&\& !(e->marks[u] \& CLOSED)) return 9;\n&/')"
+fault "6 before 14" "$(within refused_step '/return 14;/d; s/    return refused_source(e, u);/    return refused_source(e, u) ? 6 : key > MAX_KEY ? 14 : 0;/')"
+fault "9 before 14" "$(within refused_step 's/    if (key > MAX_KEY) return 14;/    if (key > MAX_KEY \&\& e->steps == e->limit \&\& !(e->marks[u] \& CLOSED)) return 9;\n&/')"
 fault "14 for a terminal mark" "s/kind == 'T' ? refused_terminal(e, first)/kind == 'T' ? (first < e->n \&\& key > MAX_KEY ? 14 : refused_terminal(e, first))/"
 fault "14 for a close" "s/: refused_close(e, first)/: first < e->n \&\& key > MAX_KEY ? 14 : refused_close(e, first)/"
 fault "n itself is a state" 's/u >= e->n || v >= e->n/u > e->n || v > e->n/'
@@ -199,6 +199,55 @@ fault "a table may not be just long enough" 's/visited_len < n/visited_len <= n/
 fault "any other kind is a close" 's/^    if (kind != .E. .*//'
 fault "11 before 1" 's/^    if (n == 0 .*/    if (kind != 69 \&\& kind != 84 \&\& kind != 67) return REFUSED + 11;\n&/'
 fault "5 before 11" 's/^    if (kind != .E. .*/    if (kind != 69 \&\& kind != 84 \&\& kind != 67) return REFUSED + (first >= n ? 5 : 11);/'
+
+# steps that come again. Which of several equal places is found no call tells.
+repeats="    if (is_repeat(e, u, v, key)) return (uint32_t)repeat(e, u, v);"
+few=1 fault "9 for a repeat where the list is full" "$(within send_step "/REFUSED + 9;/d; s/^$repeats/    if (e->steps == e->limit) return REFUSED + 9;\n&/")"
+fault "a repeat takes a place" "s/^$repeats/    if (e->steps == e->limit \&\& is_repeat(e, u, v, key)) return (uint32_t)repeat(e, u, v);/"
+fault "a repeat counts as a step" "$(within repeat 's/    return 0;/    if (e->steps < e->limit) ((Engine *)e)->steps++;\n&/')"
+fault "a new step where the list is full is taken for a repeat" 's/    if (e->steps == e->limit) return REFUSED + 9;/    if (e->steps == e->limit) return (uint32_t)repeat(e, u, v);/'
+fault "where the list is full every step between named states is a repeat" "s/^$repeats/    if (is_repeat(e, u, v, key) || (e->steps == e->limit \&\& e->marks[u] \& e->marks[v] \& NAMED)) return (uint32_t)repeat(e, u, v);/"
+fault "a repeat from a closed state is accepted" "$(within send 's/^    int number/    if (kind == 69 \&\& first < e->n \&\& second < e->n \&\& key <= MAX_KEY \&\& is_repeat(e, first, second, key)) return (uint32_t)repeat(e, first, second);\n&/')"
+fault "6 for a step from a live state where the list is full" "$(within refused_step 's/    return refused_source(e, u);/    return refused_source(e, u) || (e->status[u] == LIVE \&\& e->steps == e->limit) ? 6 : 0;/')"
+fault "a repeat does not name its states" "$(within repeat '/name(e/d')"
+fault "a repeat does not name its source" "$(within repeat '/name(e, u)/d')"
+fault "a repeat does not name its target" "$(within repeat '/name(e, v)/d')"
+fault "a repeat leaves its states unseen" "$(within repeat 's/name(e, \([uv]\))/e->marks[\1] |= NAMED/')"
+fault "a repeat clears the bits above 4" "$(within repeat 's/    return 0;/    e->marks[v] \&= 7;\n&/')"
+fault "a repeat opens its target" "$(within repeat 's/    return 0;/    e->status[v] = OPEN;\n&/')"
+fault "a repeat is judged like a new step" "$(within repeat 's/    return 0;/    return e->status[v] == LIVE ? make_live(e, u) : 0;/')"
+fault "a repeat is news" "$(within repeat 's/    return 0;/    return e->news[0] = (uint16_t)u, 1;/')"
+fault "a repeat is written behind the list" "$(within repeat 's/    return 0;/    if (e->steps < e->limit) e->from[e->steps] = (uint16_t)u;\n&/')"
+fault "a repeat leaves its place in the queue" "$(within repeat 's/    return 0;/    e->queue[0] = (uint16_t)u;\n&/')"
+fault "from is not compared" "$(within equal_at 's/e->from\[p\] == u && //')"
+fault "to is not compared" "$(within equal_at 's/e->to\[p\] == v && //')"
+fault "keys are not compared" "$(within equal_at 's/ && e->key\[p\] == key//')"
+fault "from is compared in a byte" "$(within equal_at 's/e->from\[p\] == u/(uint8_t)e->from[p] == (uint8_t)u/')"
+fault "to is compared in a byte" "$(within equal_at 's/e->to\[p\] == v/(uint8_t)e->to[p] == (uint8_t)v/')"
+fault "ends are compared in eleven bits" "$(within equal_at 's/e->from\[p\] == u/e->from[p] % 2048 == u/')"
+fault "keys are compared in four bits" "$(within equal_at 's/e->key\[p\] == key/e->key[p] % 16 == key % 16/')"
+fault "keys are compared in five bits" "$(within equal_at 's/e->key\[p\] == key/e->key[p] % 32 == key/')"
+fault "the ends are exchanged" "$(within equal_at 's/== u/== other/; s/== v/== u/; s/== other/== v/')"
+fault "the ends of a block are exchanged" "$(within ends_among 's/== u/== other/; s/== v/== u/; s/== other/== v/')"
+fault "the first entry of a block is not compared" "$(within ends_among 's/size_t i = 0/size_t i = 1/')"
+fault "the last entry of a block is not compared" "$(within ends_among 's/i < count/i + 1 < count/')"
+fault "the first entry of a block is not looked at" "$(within find_step 's/size_t p = at;/size_t p = at + 1;/')"
+fault "the last entry of a block is not looked at" "$(within find_step 's/p < end/p + 1 < end/')"
+fault "entries of a block compared by eights alone" "$(within ends_among 's/i < count/i < count - count % 8/')"
+fault "the ends by another key end the search" "$(within find_step 's/            if (equal_at.*/&\n        return 0;/')"
+fault "the first entry with the ends decides" "$(within find_step 's/            if (equal_at.*/            if (e->from[p] == u \&\& e->to[p] == v) return e->key[p] == key ? p + 1 : 0;/')"
+fault "entries behind the list are compared" "$(within find_step 's/e->steps/e->limit/g')"
+fault "the entry right behind the list is compared" "$(within find_step 's/? e->steps : at + BLOCK/? e->steps + (e->steps < e->limit) : at + BLOCK/')"
+fault "the first block is not searched" "$(within find_step 's/size_t at = 0/size_t at = BLOCK/')"
+fault "the first block alone is searched" "$(within find_step 's/at < e->steps;/at < e->steps \&\& at < BLOCK;/')"
+fault "whole blocks alone are searched" "$(within find_step 's/at < e->steps;/at + BLOCK <= e->steps;/')"
+fault "every other block is searched" "$(within find_step 's/at += BLOCK/at += 2 * BLOCK/')"
+fault "one entry is left out between blocks" "$(within find_step 's/at += BLOCK/at += BLOCK + 1/')"
+fault "4,096 steps are searched" "$(within find_step 's/at < e->steps;/at < e->steps \&\& at < 4096;/')"
+fault "no list is searched" "$(within is_repeat 's/find_step(e, u, v, key) > 0/0/')"
+fault "the whole list is searched where no step leaves the source" "$(within is_repeat 's/find_step(/e->out_head[u] == 0 \&\& find_step(/')"
+fault "a step out of the list of its source is taken for the source's" "$(within found_soon 's/equal_at(e, p - 1, u, v, key)/(e->to[p - 1] == v \&\& e->key[p - 1] == key)/')"
+fault "a step whose source has as many as are looked at is a repeat" "$(within found_soon 's/if (--left == 0) return 0;/if (--left == 0) return 1;/')"
 
 # tables with any contents
 fault "a walk that does not fall" 's/return q < p ? q : 0;/return q;/'
@@ -241,8 +290,22 @@ fitting_fault "the steps' list entries are not looked at" 's/ || next\[p\] != la
 fitting_fault "a free list entry does not fit" 's/    return memcmp(last, head, 2 \* t->n) == 0;/    if (next == t->in_next \&\& next[t->steps] > 8192) return 0;\n&/'
 fitting_fault "visited marks are not looked at" 's/ && fits_visited(t)//'
 fitting_fault "a step to a state out of range fits" 's/t->from\[p\] >= t->n || t->to\[p\] >= t->n/t->from[p] >= t->n || t->to[p] > t->n/; s/if (ends\[p\] >= t->n || next/if (ends[p] >= t->n) continue; if (next/'
-fitting_fault "a repeated step does not fit" "$(within history_of 's/        history_add(h, (Update){.E.*/        if (p > 0 \&\& t->from[p] == t->from[p - 1] \&\& t->to[p] == t->to[p - 1] \&\& t->key[p] == t->key[p - 1]) return 0;\n&/')"
-fitting_fault "a step equal but for its key does not fit" "$(within history_of 's/        history_add(h, (Update){.E.*/        if (p > 0 \&\& t->from[p] == t->from[p - 1] \&\& t->to[p] == t->to[p - 1] \&\& t->key[p] != t->key[p - 1]) return 0;\n&/')"
+fitting_fault "a step equal but for its key does not fit" "$(within steps_in_bounds 's/        if (t->from/        if ((p > 0 \&\& t->from[p] == t->from[p - 1] \&\& t->to[p] == t->to[p - 1] \&\& t->key[p] != t->key[p - 1]) || t->from/')"
+fitting_fault "two equal steps fit" 's/ || !no_two_equal(t)//'
+fitting_fault "two equal steps by a key below 16 fit" "$(within no_two_equal 's/!(\*byte_of/(t->key[p] < 16 || !(*byte_of/; s/bit_of(t, p)); p++/bit_of(t, p))); p++/')"
+few=1 fitting_fault "two equal steps by a key from 16 on fit" "$(within no_two_equal 's/!(\*byte_of/(t->key[p] >= 16 || !(*byte_of/; s/bit_of(t, p)); p++/bit_of(t, p))); p++/')"
+fitting_fault "two equal steps by the key 31 fit" "$(within no_two_equal 's/!(\*byte_of/(t->key[p] == 31 || !(*byte_of/; s/bit_of(t, p)); p++/bit_of(t, p))); p++/')"
+fitting_fault "two equal steps from a state to itself fit" "$(within no_two_equal 's/!(\*byte_of/(t->from[p] == t->to[p] || !(*byte_of/; s/bit_of(t, p)); p++/bit_of(t, p))); p++/')"
+fitting_fault "two equal steps out of a closed state fit" "$(within no_two_equal 's/!(\*byte_of/((t->marks[t->from[p]] \& CLOSED) || !(*byte_of/; s/bit_of(t, p)); p++/bit_of(t, p))); p++/')"
+fitting_fault "two equal steps that are not neighbours fit" "$(within no_two_equal 's/    size_t p = 0;/    for (size_t q = 1; q < t->steps; q++) if (t->from[q] == t->from[q - 1] \&\& t->to[q] == t->to[q - 1] \&\& t->key[q] == t->key[q - 1]) return 0;\n    return 1;\n&/')"
+fitting_fault "two equal steps side by side fit" "$(within no_two_equal 's/!(\*byte_of/((p > 0 \&\& t->from[p] == t->from[p - 1] \&\& t->to[p] == t->to[p - 1] \&\& t->key[p] == t->key[p - 1]) || !(*byte_of/; s/bit_of(t, p)); p++/bit_of(t, p))); p++/')"
+fitting_fault "two equal steps in a long list fit" "$(within no_two_equal 's/    size_t p = 0;/&\n    if (t->steps > 4096) return 1;/')"
+fitting_fault "a copy at the last place fits" "$(within no_two_equal 's/int none = p == t->steps/int none = p + 1 >= t->steps/')"
+fitting_fault "a copy of the first step fits" "$(within no_two_equal 's/size_t p = 0;/size_t p = 1;/; s/p == t->steps/p >= t->steps/')"
+fitting_fault "steps whose keys differ by 16 do not fit" "$(within byte_of 's/key\[p\] \/ 8/key[p] \/ 8 % 2/')"
+fitting_fault "steps that differ in from alone do not fit" "$(within byte_of 's/t->from\[p\]/0/')"
+fitting_fault "steps that differ in to alone do not fit" "$(within byte_of 's/t->to\[p\]/0/')"
+fitting_fault "steps that are each other's ends do not fit" "$(within byte_of 's/met\[t->from\[p\]\]\[t->to\[p\]\]/met[t->from[p] < t->to[p] ? t->from[p] : t->to[p]][t->from[p] < t->to[p] ? t->to[p] : t->from[p]]/')"
 fitting_fault "keys are not looked at" 's/ || t->key\[p\] > MOST_KEY//'
 fitting_fault "a key of 32 fits" 's/t->key\[p\] > MOST_KEY/t->key[p] > MOST_KEY + 1/'
 fitting_fault "a key of 31 does not fit" 's/t->key\[p\] > MOST_KEY/t->key[p] >= MOST_KEY/'
@@ -300,6 +363,12 @@ reading_fault "12 a line late" "$(within reading_line 's/number == 65536/number 
 reading_fault "11 before 12" "$(within reading_line 's/number == 65536/number == 65536 \&\& (length == 0 || update_of(line, length, r->keyed).kind)/')"
 reading_fault "7 still given to a line" "$(within reading_line 's/    refusal ? refuse/    if (!refusal \&\& reference_again(r->marks, u)) refusal = 7;\n&/')"
 listing_fault "a second close is listed as news" "$(within accept 's/    if (reference_again(r->marks, u)) return;/    if (listing \&\& reference_again(r->marks, u)) fprintf(listing, "%zu dead %zu\\n", number, u.first);\n&/')"
+reading_fault "9 for a line that repeats a step" "$(within reading_line 's/history_lists(h, u), u)/0, u)/')"
+reading_fault "a line that repeats a step takes a place" "$(within accept 's/    if (history_lists(&r->history, u)) return;/    if (history_lists(\&r->history, u)) return history_add_unlike(\&r->history, u);/')"
+reading_fault "a line that repeats a step of a closed state is accepted" "$(within reading_line 's/    refusal ? refuse/    if (refusal == 6 \&\& history_lists(h, u)) refusal = 0;\n&/')"
+reading_fault "a line is a repeat whatever its key" "$(within reading_line 's/    Update u = .*/&\n    for (size_t p = 0; u.key < 32 \&\& r->keyed \&\& p < r->history.steps; p++) if (r->history.listed[p].first == u.first \&\& r->history.listed[p].second == u.second) u.key = r->history.listed[p].key;/')"
+reading_fault "a line that repeats a step takes a place while there is one" "$(within accept 's/    if (history_lists(&r->history, u)) return;/    if (history_lists(\&r->history, u) \&\& r->history.steps < 2048) return history_add_unlike(\&r->history, u);/')"
+listing_fault "a repeat is listed as news" "$(within accept 's/    if (history_lists(&r->history, u)) return;/    if (listing \&\& history_lists(\&r->history, u)) fprintf(listing, "%zu live %zu\\n", number, u.first);\n&/')"
 reading_fault "a limit of 2,047 steps" "$(within reading_start 's/MOST_STATES, limit)/MOST_STATES, limit - 1)/')"
 reading_fault "a limit of 2,049 steps" "$(within reading_start 's/MOST_STATES, limit)/MOST_STATES, limit + 1)/')"
 status_fault "the last refusal decides" "$(within refuse 's/if (!r->refused) //')"
@@ -347,20 +416,21 @@ program_fault "the usage and then the record" "$(within standard_usage 's/    re
 
 # pictures
 few=1 drawing_fault "bold by the target" "$(within choose 's/first/other/g; s/second/first/g; s/other/second/g')" drawer
-drawing_fault "every step bold" 's/bold\[p++\] ? bold_end : "\];"/bold_end/'
-drawing_fault "no step bold" 's/bold\[p++\] ? bold_end : "\];"/"];"/'
-drawing_fault "no label for key 0" "$(within drawing_write 's/        if (u.kind == .E.) fprintf/        if (u.kind == 69 \&\& !u.key) fprintf(picture, "  %zu -> %zu%s\\n", u.first, u.second, bold[p++] ? " [style=bold];" : ";"); else if (u.kind == 69) fprintf/')"
+drawing_fault "every step bold" 's/bold\[p\] ? bold_end : "\];"/bold_end/'
+drawing_fault "no step bold" 's/bold\[p\] ? bold_end : "\];"/"];"/'
+drawing_fault "no label for key 0" "$(within drawing_write 's/        fprintf(picture, "  %zu -> %zu \[/        if (!u.key) fprintf(picture, "  %zu -> %zu%s\\n", u.first, u.second, bold[p] ? " [style=bold];" : ";"); else fprintf(picture, "  %zu -> %zu [/')"
 drawing_fault "a label without quotes" 's/label=\\"%zu\\"%s/label=%zu%s/'
 drawing_fault "keys above 15 drawn as 15" 's/u.second, u.key, bold/u.second, u.key > 15 ? 15 : u.key, bold/'
-drawing_fault "the key of the step before drawn" "$(within drawing_write 's/    size_t p = 0;/    size_t p = 0, last = 0;/; s/u.second, u.key, bold\[p++\] ? bold_end : "\];");/u.second, last, bold[p++] ? bold_end : "];"), last = u.key;/')"
-drawing_fault "steps that differ only in key drawn once" "$(within drawing_write 's/if (u.kind == .E.)/if (u.kind == 69 \&\& !(i > 0 \&\& r->history.accepted[i - 1].kind == 69 \&\& r->history.accepted[i - 1].first == u.first \&\& r->history.accepted[i - 1].second == u.second \&\& r->history.accepted[i - 1].key != u.key))/')"
+drawing_fault "the key of the step before drawn" "$(within drawing_write 's/u.second, u.key, bold/u.second, p > 0 ? r->history.listed[p - 1].key : u.key, bold/')"
+drawing_fault "steps that differ only in key drawn once" "$(within drawing_write 's/        fprintf(picture, "  %zu -> %zu \[/        if (!(p > 0 \&\& r->history.listed[p - 1].first == u.first \&\& r->history.listed[p - 1].second == u.second)) fprintf(picture, "  %zu -> %zu [/')"
 drawing_fault "a step with a refused key drawn" "$(within reading_line 's/    refusal ? refuse/    if (refusal == 14) history_add(\&r->history, u);\n&/')" reading
 drawing_fault "every step to a nearer state bold" "$(within choose 's/!near\[u.first\] && near\[u.second\]/!bold[p] \&\& near[u.second]/')" drawer
 drawing_fault "a ring of bold steps" "$(within choose 's/near\[u.second\])/(near[u.second] || r->status[u.second] == UNKNOWN))/')" drawer
 drawing_fault "bold steps out of live states" "$(within choose 's/r->status\[u.first\] == UNKNOWN/(r->status[u.first] == UNKNOWN || r->status[u.first] == LIVE)/')" drawer
-drawing_fault "the last bold step is plain" "$(within drawing_write 's/bold\[p++\] ?/bold[p++] \&\& p < 2048 ?/')"
+drawing_fault "the last bold step is plain" "$(within drawing_write 's/bold\[p\] ?/bold[p] \&\& p < 2047 ?/')"
 drawing_fault "refused steps drawn" "$(within reading_line 's/    refusal ? refuse/    if (refusal == 6 \&\& u.kind == 69) history_add(\&r->history, u);\n&/')" reading
-drawing_fault "an equal step drawn once" "$(within drawing_write 's/if (u.kind == .E.)/if (u.kind == 69 \&\& !(i > 0 \&\& memcmp(\&u, \&r->history.accepted[i - 1], sizeof u) == 0))/')"
+drawing_fault "a repeated step drawn again" "$(within accept 's/    if (history_lists(&r->history, u)) return;/    if (history_lists(\&r->history, u)) return history_add_unlike(\&r->history, u);/')" reading
+drawing_fault "a repeated step drawn in its last place" "$(within accept 's/    if (history_lists(&r->history, u)) return;/    if (history_lists(\&r->history, u)) { size_t p = 0; while (r->history.listed[p].first != u.first || r->history.listed[p].second != u.second || r->history.listed[p].key != u.key) p++; for (; p + 1 < r->history.steps; p++) r->history.listed[p] = r->history.listed[p + 1]; r->history.listed[p] = u; return; }/')" reading
 few=1 drawing_fault "live and dead exchanged" 's/"live", "dead"/"dead", "live"/'
 drawing_fault "the colours of open and unknown exchanged" 's/"#ffffff", "#ffe08a"/"#ffe08a", "#ffffff"/'
 drawing_fault "a terminal state with a single border" 's/", peripheries=2"/""/'
@@ -393,6 +463,7 @@ writing_fault "keys in five bits" 's/(unsigned)key\[p\]/(unsigned)key[p] % 32/'
 writing_fault "keys of two digits at most" 's/(unsigned)key\[p\]/(unsigned)(key[p] > 99 ? 99 : key[p])/'
 writing_fault "marks without a dash for the key" 's/%c %zu - -/%c %zu -/'
 writing_fault "steps equal but for the key are left out" "$(within writing_write 's/    for (size_t p = 0; p < steps; p++)/&\n        if (!(p > 0 \&\& from[p] == from[p - 1] \&\& to[p] == to[p - 1] \&\& key[p] != key[p - 1]))/')"
+writing_fault "equal steps are written once" "$(within writing_write 's/    for (size_t p = 0; p < steps; p++)/&\n        if (!(p > 0 \&\& from[p] == from[p - 1] \&\& to[p] == to[p - 1] \&\& key[p] == key[p - 1]))/')"
 writing_fault "no last newline" "$(within writing_write 's/    return length;/    return length - (steps > 0);/')"
 call_fault "an exact fit is refused" 's/buf_len - \*at < length/buf_len - *at <= length/' buffers
 few=1 call_fault "one byte short is taken" 's/buf_len - \*at < length/buf_len - *at + 1 < length/' buffers

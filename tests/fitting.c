@@ -4,17 +4,41 @@
 
 // ---- "some legal history gives these marks, this step list and these statuses"
 
+// A bit for each step that there can be, in a byte for each eight keys.
+static uint8_t *byte_of(const Tables *t, size_t p)
+{
+    static uint8_t met[MOST_STATES][MOST_STATES][(MOST_KEY + 1) / 8];
+    return &met[t->from[p]][t->to[p]][t->key[p] / 8];
+}
+
+static int bit_of(const Tables *t, size_t p) { return 1 << t->key[p] % 8; }
+
+// "Fitting tables hold no two equal steps." Meets them one after the other; the bits are taken away again.
+static int no_two_equal(const Tables *t)
+{
+    size_t p = 0;
+    for (; p < t->steps && !(*byte_of(t, p) & bit_of(t, p)); p++) *byte_of(t, p) |= (uint8_t)bit_of(t, p);
+    int none = p == t->steps;
+    while (p-- > 0) *byte_of(t, p) = 0;
+    return none;
+}
+
+static int steps_in_bounds(const Tables *t)
+{
+    for (size_t p = 0; p < t->steps; p++)
+        if (t->from[p] >= t->n || t->to[p] >= t->n || t->key[p] > MOST_KEY) return 0;
+    return 1;
+}
+
 // No step leaves a closed state here and none is marked, so it is legal; every other legal history with these terminal marks, steps and
 // closes, however ordered, gives the same marks, step list and statuses. So one legal history gives the tables where this one does.
 int history_of(const Tables *t, History *h)
 {
+    if (!steps_in_bounds(t) || !no_two_equal(t)) return 0;
     history_start(h, t->n, t->steps);
     for (size_t s = 0; s < t->n; s++)
         if (t->marks[s] & TERMINAL) history_add(h, (Update){'T', s, 0, 0});
-    for (size_t p = 0; p < t->steps; p++) {
-        if (t->from[p] >= t->n || t->to[p] >= t->n || t->key[p] > MOST_KEY) return 0;
-        history_add(h, (Update){'E', t->from[p], t->to[p], t->key[p]});
-    }
+    for (size_t p = 0; p < t->steps; p++) history_add_unlike(h, (Update){'E', t->from[p], t->to[p], t->key[p]});
     for (size_t s = 0; s < t->n; s++)
         if (t->marks[s] & CLOSED) history_add(h, (Update){'C', s, 0, 0});
     return 1;

@@ -21,8 +21,8 @@ size_t fits_successors(const Tables *t);
 int fits_lists(const Tables *t);
 int fits_visited(const Tables *t);
 
-// The history that ends with these marks and this step list: terminal marks, steps, closes. Answers whether the steps' ends are below n
-// and their keys in bounds.
+// The history that ends with these marks and this step list: terminal marks, steps, closes. Answers whether the steps' ends are below n,
+// their keys in bounds, and no two of them equal.
 int history_of(const Tables *t, History *h);
 
 #endif

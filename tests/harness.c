@@ -16,6 +16,7 @@ typedef enum {
     CHECK_NUMBER,
     CHECK_NOTHING,
     CHECK_AGAIN,
+    CHECK_REPEAT,
     CHECK_VALUE,
     CHECK_MARKS,
     CHECK_STEPS,
@@ -41,6 +42,7 @@ static const char *const check_names[CHECKS] = {
     "accepted, or refused with the reference's number",
     "nothing changed on a refusal",
     "nothing changed and no news on a close of a closed state",
+    "a step that is listed: its states named, nothing else changed, no news; in a run nothing at all changed",
     "state value",
     "marks",
     "step list",
@@ -62,6 +64,7 @@ static const char *const check_names[CHECKS] = {
 };
 
 static unsigned long refusals[15], closed_again, left_out_again, made_live, made_dead, longest_chain;
+static unsigned long repeats, repeats_when_full, left_out_repeats, new_to_the_pruned;
 
 // ---- one call, on tables with any contents
 
@@ -81,8 +84,20 @@ static uint8_t mark_bits(Update u, size_t s)
     return bits;
 }
 
-// What holds of an accepted update, but for a close of a closed state, whatever the tables held: marks, step list and state value, the
-// news' form, and what is kept.
+// A step that is equal to a listed one names its states like any other, and that is all, whatever the tables hold.
+static void check_repeat(Lent *l, Update u, size_t news)
+{
+    Table *marks = &l->table[MARKS], *status = &l->table[STATUS];
+    size_t states[] = {u.first, u.second};
+    for (size_t i = 0; i < 2; i++) {
+        table_expect(marks, states[i], table_was(marks, states[i]) | NAMED);
+        if (table_was(status, states[i]) == UNSEEN) table_expect(status, states[i], OPEN);
+    }
+    check(CHECK_REPEAT, news == 0 && lent_unchanged(l));
+}
+
+// What holds of an accepted update, but for a close of a closed state and a step that is listed, whatever the tables held: marks, step list
+// and state value, the news' form, and what is kept.
 static void check_accepted(Lent *l, Update u, size_t news)
 {
     static const Name searched[] = {STATUS, SUCCESSOR, IN_HEAD, OUT_HEAD, QUEUE, VISITED, IN_NEXT, OUT_NEXT};
@@ -109,16 +124,18 @@ static void check_accepted(Lent *l, Update u, size_t news)
     check(CHECK_KEPT, kept);
 }
 
+static int is_listed(const Lent *l, Update u) { return reference_listed(l->steps[1], words(l, FROM), words(l, TO), bytes(l, KEY), u); }
+
 static int number_of(const Lent *l, Update u)
 {
     int number = reference_lent(l->n, l->limit, l->steps[1], lent_enough(l, ALL_TABLES));
-    return number ? number : reference_sent(l->n, l->limit, l->steps[1], bytes(l, MARKS), u);
+    return number ? number : reference_sent(l->n, l->limit, l->steps[1], bytes(l, MARKS), is_listed(l, u), u);
 }
 
 // One call, held to its number and to what holds on any tables. Answers whether it was rightly accepted, with the number of its news.
 static int call(Lent *l, Update u, size_t *news)
 {
-    int number = number_of(l, u), again = !number && reference_again(bytes(l, MARKS), u);
+    int number = number_of(l, u), again = !number && reference_again(bytes(l, MARKS), u), repeat = !number && is_listed(l, u);
     shown_lent = l, shown_update = u;
     lent_keep(l);
     uint32_t answer = lent_update(l, u);
@@ -129,7 +146,9 @@ static int call(Lent *l, Update u, size_t *news)
         return 0;
     }
     if (!check(CHECK_NUMBER, answer < RADVOINIS_REFUSED)) return 0;
+    repeats += (unsigned)repeat, repeats_when_full += repeat && l->steps[1] == l->limit;
     if (again) closed_again++, check(CHECK_AGAIN, answer == 0 && lent_unchanged(l));
+    else if (repeat) check_repeat(l, u, answer);
     else check_accepted(l, u, answer);
     *news = answer;
     return !failed;
@@ -205,10 +224,11 @@ static int run_send(Run *r, Update u, size_t *news)
 {
     const Lent *l = r->lent;
     shown_history = &r->history;
-    int number = reference_sent(l->n, l->limit, r->history.steps, r->marks, u);
+    int repeat = history_lists(&r->history, u), number = reference_sent(l->n, l->limit, r->history.steps, r->marks, repeat, u);
     int accepted = call(r->lent, u, news);
     check(CHECK_NUMBER, accepted == !number);
     if (!accepted || failed) return 0;
+    if (repeat) check(CHECK_REPEAT, memcmp(r->status, bytes(l, STATUS), l->n) == 0 && memcmp(r->marks, bytes(l, MARKS), l->n) == 0);
     history_add(&r->history, u);
     check_run(r, *news);
     return !failed;
@@ -223,7 +243,8 @@ static void run_sent(Run *r, Update u)
 static Lent lent_a, lent_b;
 static Run full = {.lent = &lent_a, .send = run_sent}, thin = {.lent = &lent_b};
 
-// ---- the marked examples of document 01, their answers as it gives them; closes of closed states and keys, by document 02
+// ---- the marked examples of document 01, their answers as it gives them; closes of closed states, keys and steps that come again, by
+// document 02, which changes the eleventh
 
 typedef struct {
     const char *updates;    // a step by another key than 0 has it behind a colon
@@ -247,7 +268,9 @@ static const Example examples[] = {
     {"C1 E01", 4, 0, "", 0, "140"},
     {"C1 E01 C0", 4, 0, "0", DEAD, NULL},
     {"C0 E05", 4, 5, "", 0, NULL},
-    {"E01 E01", 1, 9, "", 0, NULL},
+    {"E01 E01", 1, 0, "", 0, "110"},
+    {"E01 E01 E10", 1, 9, "", 0, NULL},
+    {"E01 E01 E01:1", 1, 9, "", 0, NULL},
     {"E01 E01 T0", 1, 0, "0", LIVE, NULL},
     {"T0 E01 E12 C1 C2", 4, 0, "12", DEAD, NULL},
     {"T0 E12 C1 C2", 4, 0, "12", DEAD, NULL},
@@ -265,6 +288,19 @@ static const Example examples[] = {
     {"E01:7 E01:8 E01:9", 2, 9, "", 0, NULL},
     {"E01:7 E01:8 C0 C1", 2, 0, "01", DEAD, NULL},
     {"E01:7 E01:8 C0 T1", 2, 0, "01", LIVE, NULL},
+    {"E01:7 E01:8 E01:7", 2, 0, "", 0, "110"},
+    {"E01:7 E01:8 E01:8", 2, 0, "", 0, "110"},
+    {"E01 E01 E01 E12", 2, 0, "", 0, "111"},
+    {"E01 E01 E12 E02", 2, 9, "", 0, NULL},
+    {"E01 E01 E12 E01:32", 2, 14, "", 0, NULL},
+    {"E01 C0 E01", 1, 6, "", 0, NULL},
+    {"E01 C0 E01", 4, 6, "", 0, NULL},
+    {"E01 C1 E01", 1, 0, "", 0, "140"},
+    {"E01 T1 E01", 1, 0, "", 0, "330"},
+    {"E01 E10 E01 C0 C1", 2, 0, "01", DEAD, NULL},
+    {"E00:31 E00:31 C0", 1, 0, "0", DEAD, NULL},
+    {"T0 E01 E01 E12 C1 C2", 2, 0, "12", DEAD, NULL},
+    {"T0 E01 E12 C1 C2", 2, 0, "12", DEAD, NULL},
 };
 
 static int example_ends(const Example *x, uint32_t answer)
@@ -420,12 +456,14 @@ static void send_both(Update u, int leave)
 {
     size_t news, pruned;
     int live = u.first < full.lent->n && full.status[u.first] == LIVE, again = live && reference_again(full.marks, u);
+    int repeat = history_lists(&full.history, u);
     if (!run_send(&full, u, &news)) return;
     if (live && leave) {
-        left_out_again += again;
+        left_out_again += (unsigned)again, left_out_repeats += (unsigned)repeat;
         check(CHECK_LEFT_OUT, news == 0);
         return;
     }
+    new_to_the_pruned += repeat && !history_lists(&thin.history, u);
     int accepted = run_send(&thin, u, &pruned);
     check(CHECK_PRUNED, accepted && news == pruned && memcmp(words(full.lent, NEWS), words(thin.lent, NEWS), 2 * news) == 0);
     check(CHECK_PRUNED, same_where_named());
@@ -466,12 +504,14 @@ static void group_pruned_every(void)
 static void pruned_run(size_t n, size_t limit, size_t updates)
 {
     size_t steps = 1 + below(8), terminals = 1 + below(3), closes = 1 + below(5), leave = below(5), near = one_in(2) ? 1 + below(4) : 0;
+    size_t again = below(4);
     start_both(n, limit);
     for (size_t i = 0; i < updates && !failed; i++) {
         size_t kind = below(steps + terminals + closes);
         Update u = {kind < steps ? 'E' : kind < steps + terminals ? 'T' : 'C', below(n + one_in(16)), 0, 0};
         if (u.kind == 'T' && n > 24 && !one_in(n / 12)) u.kind = 'E';
         u.second = target(n, u.first, near), u.key = one_in(32) ? far_key() : key_for(u.kind);
+        if (u.kind == 'E' && full.history.steps > 0 && again && one_in(2 * again)) u = full.history.listed[below(full.history.steps)];
         send_both(u, leave == 4 || below(4) < leave);
     }
     Update last = {'C', below(n), 0, far_key()};
@@ -539,6 +579,103 @@ static void group_told(void)
         wild_told(&lent_a);
         one_in(2) ? lent_fresh(&lent_a) : wild_contents(&lent_a);
         wild_calls(&lent_a, 12);
+    }
+}
+
+// ---- steps that are listed, and such that are not
+
+// A step that differs from u in one, two or all of from, to and key; in one bit, or anyhow.
+static Update unlike(Update u)
+{
+    size_t which = 1 + below(7);
+    if (which & 1) u.first ^= one_in(2) ? 1u << below(16) : 1 + below(65535);
+    if (which & 2) u.second ^= one_in(2) ? 1u << below(16) : 1 + below(65535);
+    if (which & 4) u.key ^= one_in(2) ? 1u << below(8) : 1 + below(255);
+    return u;
+}
+
+// Every entry of the list, and those behind it, as far as the tables go: steps that are not u. With `ends`, most have its two ends.
+static void fill_unlike(Lent *l, Update u, size_t ends)
+{
+    for (size_t p = 0; p < l->limit; p++) {
+        Update other = unlike(u);
+        if (ends && !one_in(3)) other = (Update){'E', u.first, u.second, (u.key + 1 + below(255)) % 256};
+        lent_list(l, p, other);
+    }
+}
+
+// The lists of steps: of any contents; each entry a place, whatever stands there; or none.
+static void fill_lists(Lent *l, size_t how)
+{
+    for (size_t s = 0; s < l->n && how < 2; s++) words(l, OUT_HEAD)[s] = (uint16_t)(how ? below(l->steps[1] + 2) : 0);
+    for (size_t p = 0; p < l->limit && how < 2; p++) words(l, OUT_NEXT)[p] = (uint16_t)(how ? below(p + 2) : 0);
+}
+
+// Calls on a list of so many steps, full or not: u is at one place, or at two, in the list or behind it.
+static void call_listed(size_t steps, size_t place)
+{
+    static const size_t more[] = {0, 0, 1, 300};
+    Lent *l = &lent_a;
+    size_t n = 1 + below(one_in(2) ? 4 : MOST_STATES), room = steps + more[below(4)], limit = room < MOST_STEPS ? room : MOST_STEPS, news;
+    Update u = {'E', below(n), below(n), some_key()};
+    lent_size(l, n, limit, 4);
+    wild_contents(l);
+    l->steps[1] = steps;
+    fill_unlike(l, u, one_in(2));
+    fill_lists(l, below(3));
+    if (!one_in(16)) table_set(&l->table[MARKS], u.first, table_get(&l->table[MARKS], u.first) & ~(size_t)CLOSED);
+    if (one_in(8)) table_set(&l->table[STATUS], one_in(2) ? u.first : u.second, UNSEEN);
+    if (place < limit) lent_list(l, place, u);
+    if (one_in(4)) lent_list(l, below(limit), u);
+    call(l, u, &news);
+    if (!failed && one_in(2)) call(l, u, &news);    // what was new is listed now, or refused again
+    if (!failed && one_in(2)) u.key = (u.key + 16) % (MOST_KEY + 1), call(l, u, &news);
+}
+
+// Lists of every length around the powers of two, and an equal step at the first places, at the last ones, around every 256th, right behind
+// the list, and anywhere.
+static void group_listed(void)
+{
+    static const size_t lengths[] = {1,   2,   3,   7,   8,   9,   15,  16,  17,  31,  32,   33,   63,   64,   65,   127,  128,  129,  254,  255,
+                                     256, 257, 258, 300, 511, 512, 513, 767, 768, 769, 1024, 1025, 2048, 4095, 4096, 4097, 8190, 8191, 8192};
+    enum { LENGTHS = sizeof lengths / sizeof *lengths };
+    shown_history = NULL;
+    for (size_t round = 0; round < by_scale(1, 2, 10); round++)
+        for (size_t i = 0; i < LENGTHS && !failed; i++) {
+            size_t steps = lengths[i];
+            progress(i, LENGTHS);
+            for (size_t k = 0; k < 6 && !failed; k++) {
+                call_listed(steps, k), call_listed(steps, steps + 2 - k);
+                call_listed(steps, below(steps));
+            }
+            for (size_t at = 256; at <= steps + 1 && !failed; at += at < 1024 ? 256 : 256 * (1 + below(8)))
+                for (size_t k = 0; k < 4 && !failed; k++) call_listed(steps, at - 2 + k);
+        }
+}
+
+// Every place of lists of up to 40 steps, and the two behind.
+static void group_listed_short(void)
+{
+    shown_history = NULL;
+    for (size_t round = 0; round < rounds(20); round++)
+        for (size_t steps = 1; steps <= 40 && !failed; steps++)
+            for (size_t place = 0; place <= steps + 1 && !failed; place++) call_listed(steps, place);
+}
+
+// More steps out of one state than a look along its own would meet, all of them again, in some order; then others, and all once more when
+// the list is full.
+static void group_repeated_runs(void)
+{
+    for (size_t i = 0; i < rounds(200) && !failed; i++) {
+        size_t n = 1 + below(3), all = n * n * (MOST_KEY + 1), limit = 1 + below(one_in(2) ? all : 40);
+        progress(i, rounds(200));
+        run_start(&full, n, limit);
+        for (size_t k = 0; k < 3 * limit && !failed; k++) {
+            if (full.history.steps > 0 && one_in(2)) run_sent(&full, full.history.listed[below(full.history.steps)]);
+            else run_sent(&full, (Update){'E', below(n), below(n), below(MOST_KEY + 1)});
+            if (one_in(3 * limit)) run_sent(&full, (Update){one_in(2) ? 'C' : 'T', below(n), 0, 0});
+        }
+        for (size_t p = 0; p < full.history.steps && !failed; p++) run_sent(&full, full.history.listed[p]);
     }
 }
 
@@ -611,7 +748,7 @@ static void group_kinds(void)
 
 // Every mark and every status byte of the first state, with a place free and with none: a number turns on the mark's bit, never on the
 // status, so that what is sent from a state called dead and not closed goes on to the tests behind. Of closes the same bit says which
-// change nothing.
+// change nothing. A step is at the first place, at the second, which is listed or not, or at none.
 static void group_first_state(void)
 {
     Lent *l = &lent_a;
@@ -623,7 +760,9 @@ static void group_first_state(void)
         lent_fresh(l);
         table_set(&l->table[MARKS], 1, i % 256), table_set(&l->table[STATUS], 1, i / 256 % 256);
         l->steps[1] = 1 + i / (256 * 256 * 3);
-        call(l, (Update){"ETC"[i / (256 * 256) % 3], 1, below(3), one_in(8) ? far_key() : some_key()}, &news);
+        Update u = {"ETC"[i / (256 * 256) % 3], 1, below(3), one_in(8) ? far_key() : some_key()};
+        if (one_in(2)) lent_list(l, below(2), u);
+        call(l, u, &news);
     }
 }
 
@@ -685,6 +824,9 @@ static const Group groups[] = {
     {"random graphs, read state by state", group_graphs},
     {"pruned runs, every short list and every choice", group_pruned_every},
     {"pruned runs, random", group_pruned_random},
+    {"steps that come again, many out of one state", group_repeated_runs},
+    {"listed and not: at the edges of lists of up to 8,192 steps, work tables of any contents", group_listed},
+    {"listed and not: every place of short lists, work tables of any contents", group_listed_short},
     {"tables of random contents", group_contents},
     {"tables of a run, some entries overwritten", group_overwritten},
     {"tables of random lengths", group_lengths},
@@ -706,6 +848,8 @@ static void show_counts(void)
     for (int i = 1; i <= 6; i++) printf(" %d: %lu,", i, refusals[i]);
     printf(" 9: %lu, 11: %lu, 14: %lu\n", refusals[9], refusals[11], refusals[14]);
     printf("closes of closed states: %lu; left out of pruned runs: %lu\n", closed_again, left_out_again);
+    printf("repeated steps: %lu, of them where the list was full: %lu; left out of pruned runs: %lu, new to them: %lu\n", repeats,
+           repeats_when_full, left_out_repeats, new_to_the_pruned);
 }
 
 int main(int argc, char **argv)

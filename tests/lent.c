@@ -39,6 +39,11 @@ void lent_fresh(Lent *l)
     l->steps[0] = (size_t)random_word(), l->steps[1] = 0, l->steps[2] = (size_t)random_word();
 }
 
+void lent_list(Lent *l, size_t p, Update u)
+{
+    table_set(&l->table[FROM], p, u.first), table_set(&l->table[TO], p, u.second), table_set(&l->table[KEY], p, u.key);
+}
+
 Tables lent_tables(const Lent *l)
 {
     return (Tables){

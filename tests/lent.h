@@ -28,6 +28,9 @@ void lent_fresh(Lent *l);
 static inline uint8_t *bytes(const Lent *l, Name k) { return l->table[k].at; }
 static inline uint16_t *words(const Lent *l, Name k) { return (uint16_t *)(void *)l->table[k].at; }
 
+// Puts a step at a place of the step list, or behind it; the number of steps stays.
+void lent_list(Lent *l, size_t p, Update u);
+
 // The tables to be read, where they are long enough.
 Tables lent_tables(const Lent *l);
 

@@ -117,7 +117,7 @@ void full_records(size_t count, void (*hold)(size_t piece))
     for (size_t i = 0; i < 5 && !failed; i++) {
         size_t steps = i < 4 ? 2047 + i : 2049;
         start_record(i < 4 ? WITH_KEYS : WITHOUT_KEYS);
-        for (size_t p = 0; p < steps; p++) add_update((Update){'E', p % 2048, (p + 1) % 2048, some_key()});
+        for (size_t p = 0; p < steps; p++) add_update((Update){'E', p % 2048, (p + (p < 2048 ? 1 : 2)) % 2048, some_key()});
         add_update((Update){'E', 0, 1, MOST_KEY + 1});
         for (size_t s = 0; s < 2047; s++) add_update((Update){'C', s, 0, 0});
         add_update((Update){one_in(2) ? 'C' : 'T', 2047, 0, 0});
@@ -126,6 +126,65 @@ void full_records(size_t count, void (*hold)(size_t piece))
     for (size_t i = 0; i < count && !failed; i++) {
         start_record(some_form());
         add_explored(1000 + below(8000), 2048, one_in(2));
+        hold(0);
+    }
+}
+
+// ---- steps that come again
+
+// 2,048 steps: a ring of all states; or a crowd of them between eight, by all keys.
+typedef enum { RING, CROWD } Steps;
+
+static Update nth_step(Steps shape, size_t p)
+{
+    if (shape == RING) return (Update){'E', p, (p + 1) % 2048, p % (MOST_KEY + 1)};
+    return (Update){'E', p / 32 % 8, p / 256, p % 32};
+}
+
+// So many lines with these steps, each in its turn and others again between them; then, or not, lines that are refused, beside such that are
+// not; then a verdict for all states at once.
+static void add_repeated(Steps shape, size_t lines, int refused)
+{
+    Update out_of_7 = nth_step(shape, shape == RING ? 7 : 7 * 32);
+    for (size_t left = lines, listed = 0; left > 0; left--) {
+        int next = listed < 2048 && (listed == 0 || left <= 2048 - listed || one_in(2));
+        add_update(nth_step(shape, next ? listed++ : below(listed)));
+    }
+    if (refused) {
+        add_update((Update){'E', 7, 9, 7}), add_update(out_of_7);    // the list is full
+        add_update((Update){'E', 7, 8, MOST_KEY + 1});
+        add_update((Update){'C', 7, 0, 0}), add_update(out_of_7), add_update(nth_step(shape, 6));
+    }
+    for (size_t s = 0; s < 2047; s++) add_update((Update){'C', s, 0, 0});
+    if (shape == RING) add_update(nth_step(shape, 2047));
+    add_update((Update){one_in(2) ? 'C' : 'T', 2047, 0, 0});
+}
+
+// Few states and keys, so that most steps have come before.
+static void add_presses(size_t lines, size_t states, size_t keys)
+{
+    for (size_t i = 0; i < lines; i++) {
+        Update u = {one_in(12) ? "TC"[below(2)] : 'E', below(states), below(states), below(keys)};
+        if (one_in(30)) u.key += MOST_KEY;
+        if (u.kind != 'T' || one_in(3)) add_update(u);
+    }
+}
+
+void repeated_records(size_t count, void (*hold)(size_t piece))
+{
+    static const struct {
+        Steps shape;
+        size_t lines;
+    } long_ones[] = {{RING, 2049}, {CROWD, 8193}, {CROWD, 2049}, {RING, MOST_LINES - 2056}};
+    for (size_t i = 0; i < 4 * (sizeof long_ones / sizeof *long_ones) && !failed; i += by_scale(5, 1, 1)) {
+        start_record((Form)(i % 2));
+        add_repeated(long_ones[i / 4].shape, long_ones[i / 4].lines, (i / 2 + i / 4) % 2);
+        hold(0);
+    }
+    for (size_t i = 0; i < count && !failed; i++) {
+        progress(i, count);
+        start_record(some_form());
+        add_presses(below(one_in(8) ? 3000 : 80), 1 + below(one_in(4) ? 60 : 4), 1 + below(one_in(2) ? 3 : MOST_KEY + 1));
         hold(0);
     }
 }

@@ -38,6 +38,7 @@ void show_record(void);
 // failed.
 void valid_records(size_t count, void (*hold)(size_t piece));
 void full_records(size_t count, void (*hold)(size_t piece));       // up to the step limit and past it
+void repeated_records(size_t count, void (*hold)(size_t piece));   // steps that come again, up to the most lines
 void damaged_records(size_t count, void (*hold)(size_t piece));
 void noisy_records(size_t count, void (*hold)(size_t piece));      // lines of random bytes
 void awkward_records(void (*hold)(size_t piece));                  // lines at the edges of the grammar, and of the other form

@@ -18,6 +18,7 @@ int main(void)
     if (strcmp(version, RADVOINIS_VERSION) != 0) return 1;
     if (radvoinis_tables_fresh(&t, memory, size, 3, 4) != 0) return 2;
     if (radvoinis_step(&t, 0, 1) != 0 || radvoinis_step(&t, 1, 0) != 0 || radvoinis_step(&t, 1, 2) != 0) return 3;
+    if (radvoinis_step(&t, 1, 2) != 0 || t.steps != 3) return 13;
     if (radvoinis_close(&t, 0) != 0 || radvoinis_close(&t, 1) != 0) return 4;
     if (radvoinis_status_of(&t, 0) != RADVOINIS_UNKNOWN) return 5;
     if (radvoinis_step(&t, 0, 2) != RADVOINIS_REFUSED + RADVOINIS_CLOSED_SOURCE) return 6;

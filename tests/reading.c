@@ -43,8 +43,9 @@ static void accept(Reading *r, size_t number, Update u, FILE *listing)
 {
     uint8_t before[MOST_STATES];
     uint16_t news[MOST_STATES];
-    if (u.kind == 'T' && (r->marks[u.first] & TERMINAL)) return;    // a mark that is there changes nothing,
-    if (reference_again(r->marks, u)) return;                       // and so does a close
+    if (u.kind == 'T' && (r->marks[u.first] & TERMINAL)) return;    // a mark that is there changes nothing when it comes again,
+    if (reference_again(r->marks, u)) return;                       // nor does a close,
+    if (history_lists(&r->history, u)) return;                      // nor a step
     memcpy(before, r->status, MOST_STATES);
     history_add(&r->history, u);
     reference_marks(&r->history, r->marks);
@@ -91,7 +92,7 @@ int reading_line(Reading *r, const uint8_t *line, size_t length, FILE *listing)
     }
     Update u = update_of(line, length, r->keyed);
     const History *h = &r->history;
-    int refusal = reference_sent(h->n, h->limit, h->steps, r->marks, u);
+    int refusal = reference_sent(h->n, h->limit, h->steps, r->marks, history_lists(h, u), u);
     refusal ? refuse(r, number, refusal, listing) : accept(r, number, u, listing);
     return 1;
 }

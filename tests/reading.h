@@ -5,8 +5,8 @@
 #include "reference.h"
 #include <stdio.h>
 
-// What a record gives: the accepted updates, less terminal marks that repeat one, with their marks and statuses; the number of the first
-// refusal, or 0; the number of its lines, and whether they have keys.
+// What a record gives: the accepted updates, less those that repeat one, with their marks and statuses; the number of the first refusal, or
+// 0; the number of its lines, and whether they have keys.
 typedef struct {
     History history;
     uint8_t marks[MOST_STATES], status[MOST_STATES];

@@ -91,7 +91,7 @@ static void hold_record(size_t piece)
     hold_statuses(record_length > 20000 ? 1 : reading.refused ? 2 : 6);
 }
 
-// ---- document 01's listing, and one with keys
+// ---- document 01's listing, one with keys, and one with steps that come again
 
 static void hold_sample(Form f, const char *lines, const char *listing)
 {
@@ -112,12 +112,16 @@ static void group_sample(void)
                 "E 0 1 7\nE 0 1 31\nE 1 0 32\nE 2048 0 32\nC 0 - -\nE 0 1 65535\nE 0 1 31\nE 1 2\nE 1 2 65536\nC 1 - -\nT 2 - -\n",
                 "line verdict number\n4 refused 14\n5 refused 5\n7 refused 14\n8 refused 6\n9 refused 11\n10 refused 11\n"
                 "11 dead 0\n11 dead 1\n12 live 2\nend open 0\nend unknown 0\nend live 1\nend dead 2\n");
+    hold_sample(WITH_KEYS, "E 0 1 7\nE 0 1 7\nE 0 1 8\nE 0 1 7\nC 0 - -\nE 0 1 7\nE 0 1 32\nT 2 - -\nE 2 1 7\nE 2 1 7\nC 1 - -\n",
+                "line verdict number\n7 refused 6\n8 refused 14\n9 live 2\n12 dead 0\n12 dead 1\n"
+                "end open 0\nend unknown 0\nend live 1\nend dead 2\n");
 }
 
 // ---- the series of records
 
 static void group_valid(void) { valid_records(rounds(600), hold_record); }
 static void group_full_list(void) { full_records(rounds(20), hold_record); }
+static void group_repeated(void) { repeated_records(rounds(300), hold_record); }
 static void group_damaged(void) { damaged_records(rounds(1200), hold_record); }
 static void group_noise(void) { noisy_records(rounds(200), hold_record); }
 static void group_awkward(void) { awkward_records(hold_record); }
@@ -253,13 +257,14 @@ static void group_failing_outputs(void)
 // ---- all groups
 
 static const Group groups[] = {
-    {"document 01's listing, and one with keys", group_sample},
+    {"document 01's listing, one with keys, one with repeated steps", group_sample},
     {"inputs that nobody closes, where reading stops", group_stopped},
     {"inputs that cannot be read to their end", group_failing_inputs},
     {"outputs that cannot be written", group_failing_outputs},
     {"arguments", group_arguments},
     {"valid records", group_valid},
     {"records up to the step limit and past it", group_full_list},
+    {"repeated steps, up to 65,535 lines of which 2,048 steps differ", group_repeated},
     {"damaged records", group_damaged},
     {"lines of random bytes", group_noise},
     {"lines at the edges of the grammar", group_awkward},

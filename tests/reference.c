@@ -10,25 +10,50 @@ void history_start(History *h, size_t n, size_t limit)
     h->n = n, h->limit = limit, h->count = h->steps = 0;
 }
 
-void history_add(History *h, Update u)
+// "A step equal in from, to and key to a listed one"
+static int equal_steps(Update a, Update b) { return a.first == b.first && a.second == b.second && a.key == b.key; }
+
+int history_lists(const History *h, Update u)
 {
-    if (h->count == h->room) {
-        h->room = h->room ? 2 * h->room : 64;
-        h->accepted = realloc(h->accepted, h->room * sizeof *h->accepted);
-        if (!h->accepted) abort();
-    }
-    h->accepted[h->count++] = u;
-    h->steps += u.kind == 'E';
+    if (u.kind != 'E') return 0;
+    for (size_t p = 0; p < h->steps; p++)
+        if (equal_steps(h->listed[p], u)) return 1;
+    return 0;
 }
+
+static void make_room(History *h)
+{
+    if (h->count < h->room) return;
+    h->room = h->room ? 2 * h->room : 64;
+    h->accepted = realloc(h->accepted, h->room * sizeof *h->accepted);
+    h->listed = realloc(h->listed, h->room * sizeof *h->listed);
+    if (!h->accepted || !h->listed) abort();
+}
+
+static void add(History *h, Update u, int repeat)
+{
+    make_room(h);
+    h->accepted[h->count++] = u;
+    if (u.kind == 'E' && !repeat) h->listed[h->steps++] = u;    // a repeat "is accepted without taking a place"
+}
+
+void history_add(History *h, Update u) { add(h, u, history_lists(h, u)); }
+
+void history_add_unlike(History *h, Update u) { add(h, u, 0); }
+
+void history_cut(History *h, size_t count, size_t steps) { h->count = count, h->steps = steps; }
 
 void history_drop(History *h)
 {
-    h->steps -= h->accepted[--h->count].kind == 'E';
+    Update last = h->accepted[--h->count];
+    int before = 0;
+    for (size_t i = 0; i < h->count; i++) before |= h->accepted[i].kind == 'E' && equal_steps(h->accepted[i], last);
+    h->steps -= last.kind == 'E' && !before;
 }
 
 void history_end(History *h)
 {
-    free(h->accepted);
+    free(h->accepted), free(h->listed);
     *h = (History){0};
 }
 
@@ -107,11 +132,9 @@ typedef struct {
 static void sort_sources(const History *h, Sources *x)
 {
     memset(x->start, 0, sizeof x->start);
-    for (size_t i = 0; i < h->count; i++)
-        if (h->accepted[i].kind == 'E') x->start[h->accepted[i].second]++;
+    for (size_t p = 0; p < h->steps; p++) x->start[h->listed[p].second]++;
     for (size_t s = 0, sum = 0; s <= h->n; s++) x->start[s] = sum += s < h->n ? x->start[s] : 0;
-    for (size_t i = 0; i < h->count; i++)
-        if (h->accepted[i].kind == 'E') x->source[--x->start[h->accepted[i].second]] = (uint16_t)h->accepted[i].first;
+    for (size_t p = 0; p < h->steps; p++) x->source[--x->start[h->listed[p].second]] = (uint16_t)h->listed[p].first;
 }
 
 // Adds to the set every state from which steps lead into it.
@@ -194,14 +217,22 @@ int reference_lent(size_t n, size_t limit, size_t steps, int long_enough)
     return 0;
 }
 
-int reference_sent(size_t n, size_t limit, size_t steps, const uint8_t *marks, Update u)
+int reference_listed(size_t steps, const uint16_t *from, const uint16_t *to, const uint8_t *key, Update u)
+{
+    if (u.kind != 'E') return 0;
+    for (size_t p = 0; p < steps; p++)
+        if (equal_steps((Update){'E', from[p], to[p], key[p]}, u)) return 1;
+    return 0;
+}
+
+int reference_sent(size_t n, size_t limit, size_t steps, const uint8_t *marks, int listed, Update u)
 {
     int opens = u.kind == 'E' || u.kind == 'T';
     if (!opens && u.kind != 'C') return 11;
     if (u.first >= n || (u.kind == 'E' && u.second >= n)) return 5;
     if (u.kind == 'E' && u.key > MOST_KEY) return 14;    // "tested right after 5"
     if (opens && (marks[u.first] & CLOSED)) return 6;
-    if (u.kind == 'E' && steps == limit) return 9;
+    if (u.kind == 'E' && steps == limit && !listed) return 9;    // a repeat is accepted "also when the list is full"
     return 0;
 }
 

@@ -32,19 +32,30 @@ uint32_t run_update(Run *r, Update u)
 
 int same_steps(const Lent *l, const History *h)
 {
-    size_t p = 0;
-    for (size_t i = 0; i < h->count; i++) {
-        Update u = h->accepted[i];
-        if (u.kind != 'E') continue;
+    if (h->steps != l->steps[1]) return 0;
+    for (size_t p = 0; p < h->steps; p++) {
+        Update u = h->listed[p];
         if (words(l, FROM)[p] != u.first || words(l, TO)[p] != u.second || bytes(l, KEY)[p] != u.key) return 0;
-        p++;
     }
-    return p == l->steps[1];
+    return 1;
+}
+
+static void send_update(Run *r, Update u)
+{
+    if (!failed) r->send(r, u);
 }
 
 static void send(Run *r, char kind, size_t first, size_t second)
 {
-    if (!failed) r->send(r, (Update){(uint8_t)kind, first, second, key_for((uint8_t)kind)});
+    send_update(r, (Update){(uint8_t)kind, first, second, key_for((uint8_t)kind)});
+}
+
+// A step that comes again at once, now and then.
+static void send_step(Run *r, size_t first, size_t second)
+{
+    Update u = {'E', first, second, some_key()};
+    send_update(r, u);
+    if (one_in(4)) send_update(r, u);
 }
 
 // ---- every short list
@@ -59,7 +70,7 @@ void run_save(const Run *r, SavedRun *s)
 void run_restore(Run *r, const SavedRun *s)
 {
     lent_restore(r->lent, &s->tables);
-    r->history.count = s->count, r->history.steps = s->steps;
+    history_cut(&r->history, s->count, s->steps);
     memcpy(r->status, s->status, 4), memcpy(r->marks, s->marks, 4);
 }
 
@@ -128,7 +139,7 @@ size_t key_for(uint8_t kind) { return kind != 'E' && one_in(8) ? far_key() : som
 void random_history(History *h, size_t n, size_t limit, size_t updates, int legal)
 {
     uint8_t closed[MOST_STATES] = {0};
-    size_t steps = 1 + below(8), terminals = below(3), closes = 1 + below(6), near = one_in(2) ? 1 + below(4) : 0;
+    size_t steps = 1 + below(8), terminals = below(3), closes = 1 + below(6), near = one_in(2) ? 1 + below(4) : 0, again = below(5);
     history_start(h, n, limit);
     for (size_t i = 0; i < updates; i++) {
         size_t kind = below(steps + terminals + closes);
@@ -136,8 +147,10 @@ void random_history(History *h, size_t n, size_t limit, size_t updates, int lega
         if (u.kind == 'T' && !one_in(1 + n / 8)) u.kind = 'E';
         if (updates > 1 && i + 2 == updates) u.kind = 'C';
         if (updates > 1 && i + 1 == updates) u = h->accepted[h->count - 1];    // the close before it, again
-        if (legal && ((closed[u.first] && u.kind != 'C') || (u.kind == 'E' && h->steps == limit))) continue;
         if (u.kind == 'E') u.second = target(n, u.first, near);
+        if (u.kind == 'E' && h->steps > 0 && again && one_in(2 * again)) u = h->listed[below(h->steps)];
+        if (legal && closed[u.first] && u.kind != 'C') continue;
+        if (legal && u.kind == 'E' && h->steps == limit && !history_lists(h, u)) continue;
         closed[u.first] |= u.kind == 'C';
         history_add(h, u);
     }
@@ -150,9 +163,33 @@ static void close_again(Run *r)
     send(r, 'C', s, 0), send(r, 'C', s, 0);
 }
 
+// Some of the steps that a run has sent.
+enum { KEPT = 256 };
+typedef struct {
+    Update step[KEPT];
+    size_t count;
+} Past;
+
+static void keep_step(Past *past, Update u)
+{
+    if (u.kind == 'E') past->step[past->count < KEPT ? past->count++ : below(KEPT)] = u;
+}
+
+// One of them again, or the same but for its source, its target or its key.
+static Update step_again(const Past *past, size_t n)
+{
+    Update u = past->step[below(past->count)];
+    size_t other = below(12);
+    if (other == 0) u.first = below(n);
+    if (other == 1) u.second = below(n);
+    if (other == 2) u.key = some_key();
+    return u;
+}
+
 void mixed_run(Run *r, size_t n, size_t limit, size_t updates)
 {
-    size_t steps = 1 + below(12), terminals = one_in(2) ? below(3) : 0, closes = 1 + below(6);
+    Past past = {.count = 0};
+    size_t steps = 1 + below(12), terminals = one_in(2) ? below(3) : 0, closes = 1 + below(6), again = below(5);
     size_t order = below(3), near = one_in(2) ? 1 + below(4) : 0, wild = one_in(2) ? 20 + below(40) : 0;
     run_start(r, n, limit);
     for (size_t i = 0; i < updates && !failed; i++) {
@@ -163,6 +200,8 @@ void mixed_run(Run *r, size_t n, size_t limit, size_t updates)
         u.second = target(n, u.first, near);
         u.key = wild && one_in(wild) ? far_key() : key_for(u.kind);
         if (wild && one_in(wild)) *(one_in(2) ? &u.first : &u.second) = n + below(one_in(2) ? 3 : 70000);
+        if (u.kind == 'E' && past.count > 0 && again && one_in(2 * again)) u = step_again(&past, n);
+        keep_step(&past, u);
         r->send(r, u);
     }
     close_again(r);
@@ -190,8 +229,8 @@ void chain_run(Run *r, size_t n, size_t how, size_t extra, size_t skip)
     run_start(r, n, n + n / 2 + 2);
     for (size_t i = 0; i < n && !failed; i++) {
         size_t s = order[i];
-        if (!one_in(n)) send(r, 'E', s, (s + 1) % n);
-        if (extra && one_in(extra)) send(r, 'E', s, below(n));
+        if (!one_in(n)) send_step(r, s, (s + 1) % n);
+        if (extra && one_in(extra)) send_step(r, s, below(n));
         if (mark && one_in(n)) send(r, 'T', s, 0);
         if (!skip || !one_in(skip)) send(r, 'C', s, 0);
     }
@@ -206,7 +245,7 @@ void graph_run(Run *r, size_t n, size_t limit)
     read_order(order, n, below(3));
     run_start(r, n, limit);
     for (size_t i = 0; i < n && !failed; i++) {
-        for (size_t k = below(degree + 1); k > 0; k--) send(r, 'E', order[i], target(n, order[i], near));
+        for (size_t k = below(degree + 1); k > 0; k--) send_step(r, order[i], target(n, order[i], near));
         if (mark && one_in(n)) send(r, 'T', order[i], 0);
         if (!late && !one_in(16)) send(r, 'C', order[i], 0);
     }
@@ -231,18 +270,27 @@ void large_run(Run *r, size_t i, size_t n, size_t limit)
     else graph_run(r, n, limit);
 }
 
+// Four steps out of each state, by keys that differ, so that the list has 8,192.
 void full_list_run(Run *r, size_t near)
 {
+    static Update steps[MOST_STATES][4];
     size_t order[MOST_STATES], n = MOST_STATES;
     read_order(order, n, 2);
     run_start(r, n, MOST_STEPS);
     for (size_t i = 0; i < n && !failed; i++) {
-        for (size_t k = 0; k < 4; k++) send(r, 'E', order[i], target(n, order[i], near));
+        for (size_t k = 0; k < 4; k++) {
+            steps[i][k] = (Update){'E', order[i], target(n, order[i], near), 8 * k + below(8)};
+            send_update(r, steps[i][k]);
+        }
         if (i % 16) send(r, 'C', order[i], 0);
     }
     for (size_t i = 0; i < n && !failed; i += 16) {
+        Update again = steps[i][below(4)], other = again, late = steps[i + 1][below(4)];
+        other.key = (other.key + 8) % (MOST_KEY + 1);
+        send_update(r, again), send_update(r, other), send_update(r, late);
         send(r, 'E', order[i], order[i + 1]);
         send(r, i % 1024 ? 'C' : 'T', order[i], 0);
+        send_update(r, again);
     }
     close_again(r);
 }

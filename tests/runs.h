@@ -49,11 +49,11 @@ size_t some_key(void);
 size_t far_key(void);
 size_t key_for(uint8_t kind);
 
-// A history of up to so many updates, in random proportions, the last close again at its end; a legal one has at most `limit` steps, and
-// none is refused.
+// A history of up to so many updates, in random proportions, steps that come again among them, the last close again at its end; a legal one
+// lists at most `limit` steps, and none is refused.
 void random_history(History *h, size_t n, size_t limit, size_t updates, int legal);
 
-// Each of the runs below ends with a close that comes again.
+// Each of the runs below has steps that come again, and ends with a close that does.
 
 // Updates in random proportions; closes at random, by rising or by falling state; now and then a state or a key out of range.
 void mixed_run(Run *r, size_t n, size_t limit, size_t updates);
@@ -69,7 +69,8 @@ void graph_run(Run *r, size_t n, size_t limit);
 void small_run(Run *r, size_t i);
 void large_run(Run *r, size_t i, size_t n, size_t limit);
 
-// As many states and steps as there can be, then one step more, and a verdict for each state.
+// As many states and listed steps as there can be; then, from open states and closed ones, steps that come again and others, and a verdict
+// for each state.
 void full_list_run(Run *r, size_t near);
 
 // Shows the run that is under way, where a check fails.

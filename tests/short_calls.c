@@ -40,7 +40,7 @@ static const char *const check_names[CHECKS] = {
     "status question",
     "table check",
     "record writer",
-    "the examples of document 01, and steps by keys",
+    "the examples of document 01, steps by keys, and a step that comes again",
 };
 
 static unsigned long sent, refused, laid;
@@ -343,7 +343,7 @@ static void group_runs_large(void)
     full_list_run(&run, 3);
 }
 
-// The examples of document 01 that name their verdicts, and steps by keys, as an explorer sends them.
+// The examples of document 01 that name their verdicts, steps by keys, and one that comes again, as an explorer sends them.
 static void group_examples(void)
 {
     shown_lent = NULL;
@@ -364,6 +364,8 @@ static void group_examples(void)
     check(CHECK_EXAMPLE, radvoinis_step_by_key(t, 0, 2, RADVOINIS_MAX_KEY) == RADVOINIS_REFUSED + RADVOINIS_CLOSED_SOURCE);
     check(CHECK_EXAMPLE, radvoinis_step_by_key(t, 2, 0, RADVOINIS_MAX_KEY) == 0 && t->steps == 4 && t->key[3] == 31);
     check(CHECK_EXAMPLE, radvoinis_step_by_key(t, 2, 0, 30) == RADVOINIS_REFUSED + RADVOINIS_LIST_FULL && radvoinis_check(t) == 1);
+    check(CHECK_EXAMPLE, radvoinis_step_by_key(t, 2, 0, RADVOINIS_MAX_KEY) == 0 && t->steps == 4 && radvoinis_check(t) == 1);
+    check(CHECK_EXAMPLE, radvoinis_step(t, 0, 1) == RADVOINIS_REFUSED + RADVOINIS_CLOSED_SOURCE);
     t->key[3] = 32;
     check(CHECK_EXAMPLE, radvoinis_check(t) == 0);
 }

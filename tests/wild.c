@@ -64,10 +64,23 @@ void wild_contents(Lent *l)
     l->steps[0] = (size_t)random_word(), l->steps[1] = below(l->limit + 1), l->steps[2] = (size_t)random_word();
 }
 
+// One of the listed steps, or the same but for one of from, to and key, where the tables have it.
+static Update listed_step(const Lent *l, Update u)
+{
+    size_t p = below(l->steps[1]), other = below(6), n = l->n ? l->n : 1;
+    if (p >= l->table[FROM].length || p >= l->table[TO].length || p >= l->table[KEY].length) return u;
+    u = (Update){'E', table_get(&l->table[FROM], p), table_get(&l->table[TO], p), table_get(&l->table[KEY], p)};
+    if (other == 0) u.first = below(n);
+    if (other == 1) u.second = below(n);
+    if (other == 2) u.key = some_key();
+    return u;
+}
+
 Update wild_update(const Lent *l)
 {
     size_t n = l->n ? l->n : 1;
     Update u = {"EEECCT"[below(6)], below(n), below(n), some_key()};
+    if (u.kind == 'E' && l->steps[1] > 0 && one_in(3)) return listed_step(l, u);
     if (one_in(20)) u.key = far_key();
     if (one_in(20)) u.first = l->n + below(3);
     if (one_in(20)) u.second = l->n + below(70000);

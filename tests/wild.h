@@ -24,7 +24,7 @@ void wild_told(Lent *l);
 size_t wild_entry(const Lent *l, Name k);
 void wild_contents(Lent *l);
 
-// An update that is mostly in range, steps and closes more often than terminal marks.
+// An update that is mostly in range, steps and closes more often than terminal marks; some steps are listed, or nearly so.
 Update wild_update(const Lent *l);
 
 // Calls on fresh tables each of which in turn is too short by one or empty, with a number of steps within the limit and above it.

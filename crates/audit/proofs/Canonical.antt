@@ -3,18 +3,20 @@
 use mathlib.Core.Path.{_≡_, refl, sym, _∙_, ap}
 use mathlib.Core.Logic.{_⊎_, inl, inr, ⊎-elim}
 use mathlib.Core.Bool.{Bool, true, false, cond}
-use mathlib.Core.List.{List, [], _∷_, append-nil, map-append, List·Memᴰ·head, List·Memᴰ·tail, List·Memᴰ·cases-cons, List·Memᴰ·not-nil}
+use mathlib.Core.List.{List, [], _∷_, _++_, map, append-nil, map-append, List·Memᴰ·head, List·Memᴰ·tail, List·Memᴰ·cases-cons, List·Memᴰ·not-nil}
 use Prim.Native.Nat.{ℕ, zero, suc, _<_, _≤_}
 use native.Mathlib.Omega.{arith}
 use native.Mathlib.Decide.{ℕ-discrete}
-use lib.ListN.{length, getD, take, length-append}
-use lib.Seq.{take-suc}
+use lib.ListN.{length, getD, take, length-append, List·getD-append}
+use lib.Seq.{take-suc, getD-append-seam}
 use Rattle.gid.specs.declared.Edge.{Edge}
 use Rattle.gid.specs.declared.Update.{Update}
 use Rattle.gid.specs.declared.Update.the-variants.{Step, Terminal, Close}
 use Rattle.gid.specs.Updates.{edge}
-use Rattle.gid.specs.Histories.{History, Has, IsTerminal, IsClosed, MayFollow, Legal, added, listed}
+use Rattle.gid.specs.Histories.{History, Has, IsTerminal, IsClosed, MayFollow, Legal, isIn, added, listed}
+use Rattle.gid.proofs.Listing.{in-at, new-listed}
 use Rattle.gid.proofs.Tests.{step-terminal, step-close, terminal-close}
+use Rattle.tables.specs.Listing.{Distinct}
 use Rattle.tables.specs.Fitting.{keys}
 use Rattle.tables.proofs.Listed.{ListsSteps}
 
@@ -26,6 +28,49 @@ marking kind f (suc n) h = cond (f n) (kind n ∷ marking kind f n h) (marking k
 listing : (from to key : List ℕ) → ℕ → History → History
 listing from to key zero h = h
 listing from to key (suc m) h = Step (edge (getD from m 0) (getD to m 0) (getD key m 0)) ∷ listing from to key m h
+
+-- The first m rows of the three columns.
+abbrev row : (from to key : List ℕ) → ℕ → Edge
+row from to key p = edge (getD from p 0) (getD to p 0) (getD key p 0)
+
+rows : (from to key : List ℕ) → ℕ → List Edge
+rows from to key zero = []
+rows from to key (suc m) = rows from to key m ++ (row from to key m ∷ [])
+
+module _ (from to key : List ℕ) where
+  rows-length : (m : ℕ) → length (rows from to key m) ≡ m
+  unfolding rows
+  rows-length zero = refl
+  rows-length (suc m) = omega (arith, rows-length m, length-append (rows from to key m) (row from to key m ∷ []))
+
+  rows-at : (m p : ℕ) → p < m → getD (rows from to key m) p (edge 0 0 0) ≡ row from to key p
+  unfolding rows
+  rows-at zero p k = absurd (omega arith)
+  rows-at (suc m) p k = at (ℕ-discrete p m) (rows-at m p)
+    where
+      at : Dec (p ≡ m) → (p < m → getD (rows from to key m) p (edge 0 0 0) ≡ row from to key p) → getD (rows from to key m ++ (row from to key m ∷ [])) p (edge 0 0 0) ≡ row from to key p
+      at (yes z) i =
+          let w : p ≡ length (rows from to key m) = omega (arith, z, rows-length m) in
+          ap (λ (q : ℕ). getD (rows from to key m ++ (row from to key m ∷ [])) q (edge 0 0 0)) w ∙ getD-append-seam (rows from to key m) (row from to key m) [] (edge 0 0 0) ∙ ap (row from to key) (sym z)
+      at (no d) i = List·getD-append (rows from to key m) (row from to key m ∷ []) (edge 0 0 0) p (omega (arith, rows-length m)) ∙ i (omega arith)
+
+  -- a column of them
+  rows-column : (f : Edge → ℕ) (l : List ℕ) → ((p : ℕ) → getD l p 0 ≡ f (row from to key p)) → (m : ℕ) → m ≤ length l → take m l ≡ map f (rows from to key m)
+  unfolding rows
+  rows-column f l e zero k = refl
+  rows-column f l e (suc m) k = rw (take-suc l m 0 k, rows-column f l e m (omega arith), map-append, e m)
+
+  -- where no two are equal, a row is none of those before it
+  rows-new : (m : ℕ) → Distinct (suc m) from to key → isIn (rows from to key m) (row from to key m) ≡ false
+  rows-new m d = at (isIn (rows from to key m) (row from to key m)) refl
+    where
+      at : (b : Bool) → isIn (rows from to key m) (row from to key m) ≡ b → isIn (rows from to key m) (row from to key m) ≡ false
+      at false z = z
+      at true z =
+          let r = in-at (rows from to key m) (row from to key m) z in
+          let k : r .0 < m = omega (arith, r .1, rows-length m) in
+          let y : row from to key (r .0) ≡ row from to key m = sym (rows-at m (r .0) k) ∙ r .2 in
+          absurd (d (r .0) m k (omega arith) (ap (λ (x : Edge). x .from) y) (ap (λ (x : Edge). x .to) y) (ap (λ (x : Edge). x .key) y))
 
 pub canonical : ℕ → ℕ → (from to key : List ℕ) → (ℕ → Bool) → (ℕ → Bool) → History
 canonical n m from to key terminal closed = marking Close closed n (listing from to key m (marking Terminal terminal n []))
@@ -68,13 +113,13 @@ module _ (kind : ℕ → Update) (f : ℕ → Bool) (h : History) where
       at (no d) false z i = i (omega arith)
 
   -- updates that are no steps list none
-  marking-listed : ((s : ℕ) → added (kind s) ≡ []) → (n : ℕ) → listed (marking kind f n h) ≡ listed h
+  marking-listed : ((has : Edge → Bool) (s : ℕ) → added has (kind s) ≡ []) → (n : ℕ) → listed (marking kind f n h) ≡ listed h
   unfolding marking listed
   marking-listed e zero = refl
   marking-listed e (suc n) = at (f n) (marking-listed e n)
     where
       at : (b : Bool) → listed (marking kind f n h) ≡ listed h → listed (cond b (kind n ∷ marking kind f n h) (marking kind f n h)) ≡ listed h
-      at true i = rw (e n, append-nil) i
+      at true i = rw (e (isIn (listed (marking kind f n h))) n, append-nil) i
       at false i = i
 
   marking-legal : Legal h → (n : ℕ) → ((s : ℕ) → MayFollow (marking kind f s h) (kind s)) → Legal (marking kind f n h)
@@ -98,21 +143,13 @@ module _ (from to key : List ℕ) (h : History) where
   listing-older zero k = k
   listing-older (suc m) k = List·Memᴰ·tail (listing-older m k)
 
-  listing-lists : listed h ≡ [] → (m : ℕ) → m ≤ length from → m ≤ length to → ListsSteps (listing from to key m h) m from to
-  unfolding listing listed
-  listing-lists e zero a b = record { count = rw e; froms = rw e; tos = rw e }
-  listing-lists e (suc m) a b =
-      let l = listing-lists e m (omega arith) (omega arith) in
-      record {
-        count = omega (arith, l .count, length-append (listed (listing from to key m h)) (edge (getD from m 0) (getD to m 0) (getD key m 0) ∷ []));
-        froms = rw (take-suc from m 0 a, l .froms, map-append);
-        tos = rw (take-suc to m 0 b, l .tos, map-append);
-      }
-
-  listing-keys : listed h ≡ [] → (m : ℕ) → m ≤ length key → take m key ≡ keys (listing from to key m h)
-  unfolding listing listed
-  listing-keys e zero a = rw e
-  listing-keys e (suc m) a = rw (take-suc key m 0 a, listing-keys e m (omega arith), map-append)
+  -- no two rows are equal, so each step is listed
+  listing-listed : listed h ≡ [] → (m : ℕ) → Distinct m from to key → listed (listing from to key m h) ≡ rows from to key m
+  unfolding listing rows
+  listing-listed e zero d = e
+  listing-listed e (suc m) d =
+      let i = listing-listed e m (λ p q k l. d p q k (omega arith)) in
+      new-listed (listing from to key m h) (row from to key m) (rw i (rows-new from to key m d)) ∙ ap (λ (l : List Edge). l ++ (row from to key m ∷ [])) i
 
   -- a step is one of the list, with its key, or was there before
   listing-step : (m : ℕ) {e : Edge} → Has (listing from to key m h) (Step e) → ((p : ℕ) × (p < m) × (e .key ≡ getD key p 0)) ⊎ Has h (Step e)
@@ -159,20 +196,24 @@ module _ (n m : ℕ) (from to key : List ℕ) (terminal closed : ℕ → Bool) w
       at : Marked Close closed n (Close s) → (s < n) × (closed s ≡ true)
       at (r, l, e, z) = let w : s ≡ r = cc in rw w (l, e)
 
-  -- Its steps are those of the lists.
-  pub canonical-lists : m ≤ length from → m ≤ length to → ListsSteps (canonical n m from to key terminal closed) m from to
-  unfolding canonical listed
-  canonical-lists inFrom inTo =
-      let l = listing-lists from to key (marking Terminal terminal n []) (marking-listed Terminal terminal [] (λ s. refl) n) m inFrom inTo in
-      let e = marking-listed Close closed (listing from to key m (marking Terminal terminal n [])) (λ s. refl) n in
-      record { count = rw e (l .count); froms = rw e (l .froms); tos = rw e (l .tos) }
+  -- Its steps are those of the lists, where no two of them are equal.
+  module _ (distinct : Distinct m from to key) where
+    canonical-listed : listed (canonical n m from to key terminal closed) ≡ rows from to key m
+    unfolding canonical listed
+    canonical-listed =
+        marking-listed Close closed (listing from to key m (marking Terminal terminal n [])) (λ has s. refl) n
+        ∙ listing-listed from to key (marking Terminal terminal n []) (marking-listed Terminal terminal [] (λ has s. refl) n) m distinct
 
-  pub canonical-keys : m ≤ length key → take m key ≡ keys (canonical n m from to key terminal closed)
-  unfolding canonical listed
-  canonical-keys inKey =
-      let l = listing-keys from to key (marking Terminal terminal n []) (marking-listed Terminal terminal [] (λ s. refl) n) m inKey in
-      let e = marking-listed Close closed (listing from to key m (marking Terminal terminal n [])) (λ s. refl) n in
-      rw e l
+    pub canonical-lists : m ≤ length from → m ≤ length to → ListsSteps (canonical n m from to key terminal closed) m from to
+    canonical-lists inFrom inTo =
+        record {
+          count = rw canonical-listed (sym (rows-length from to key m));
+          froms = rw canonical-listed (rows-column from to key (λ (e : Edge). e .from) from (λ p. refl) m inFrom);
+          tos = rw canonical-listed (rows-column from to key (λ (e : Edge). e .to) to (λ p. refl) m inTo);
+        }
+
+    pub canonical-keys : m ≤ length key → take m key ≡ keys (canonical n m from to key terminal closed)
+    canonical-keys inKey = rw canonical-listed (rows-column from to key (λ (e : Edge). e .key) key (λ p. refl) m inKey)
 
   pub canonical-key : {e : Edge} → Has (canonical n m from to key terminal closed) (Step e) → (p : ℕ) × (p < m) × (e .key ≡ getD key p 0)
   unfolding canonical

@@ -72,7 +72,7 @@ module _ {n m : ℕ} {ends next last₀ : List ℕ} where
       }
 
 -- The whole list: the work table is emptied, then next entries, then heads.
-emptied : {n : ℕ} {l l′ : List ℕ} → n ≤ length l → l′ ≡ filled n 0 l → Kept n l l′
+pub emptied : {n : ℕ} {l l′ : List ℕ} → n ≤ length l → l′ ≡ filled n 0 l → Kept n l l′
 emptied {n} {l} w z = rw z (filled-kept n 0 l w)
 
 module _ {n m : ℕ} {ends head next last₀ last₁ last : List ℕ} (w : n ≤ length last₀) (z : last₁ ≡ filled n 0 last₀) where

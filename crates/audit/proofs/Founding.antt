@@ -68,7 +68,7 @@ module _ (g : Graph) (t : Tables) (f : TableFacts (g .n) (g .steps) t) (inFrom :
 
   -- The steps, marks and closes of the history, as the tables have them.
   lists : ListsSteps (canonicalOf g t) (g .steps) (t .from) (t .to)
-  lists = canonical-lists (g .n) (g .steps) (t .from) (t .to) (t .key) (terminalOf t) (closedOf t) inFrom inTo
+  lists = canonical-lists (g .n) (g .steps) (t .from) (t .to) (t .key) (terminalOf t) (closedOf t) (f .distinct) inFrom inTo
 
   has-terminal : {s : ℕ} → IsTerminal (canonicalOf g t) s → (s < g .n) × (terminalOf t s ≡ true)
   has-terminal = terminal-canonical (g .n) (g .steps) (t .from) (t .to) (t .key) (terminalOf t) (closedOf t)
@@ -213,7 +213,7 @@ module _ (g : Graph) (t : Tables) (f : TableFacts (g .n) (g .steps) t) (inFrom :
         steps = lists .count;
         from = lists .froms;
         to = lists .tos;
-        key = canonical-keys (g .n) (g .steps) (t .from) (t .to) (t .key) (terminalOf t) (closedOf t) inKey;
+        key = canonical-keys (g .n) (g .steps) (t .from) (t .to) (t .key) (terminalOf t) (closedOf t) (f .distinct) inKey;
         status = statuses-given;
         successor = successors-given;
         into = f .into;

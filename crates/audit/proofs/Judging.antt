@@ -1,6 +1,6 @@
 -- The facts hold exactly where the tables fit; what the parts of the check answer, put together.
 -- Assumes nothing.
-use mathlib.Core.Path.{_≡_, refl}
+use mathlib.Core.Path.{_≡_, refl, sym, _∙_}
 use mathlib.Core.Logic.{_↔_}
 use mathlib.Core.Bool.{Bool, true, false, false≢true}
 use mathlib.Core.List.{List}
@@ -13,6 +13,8 @@ use Rattle.tables.specs.Tables.{Tables, nodesOf, visitedLength, Long, enough, l
 use Rattle.tables.specs.Visits.{NoneVisited}
 use Rattle.tables.specs.Refused.{lentNumber}
 use Rattle.tables.specs.Marks.{hasTerminal, hasClosed}
+use Rattle.tables.specs.Listing.{Distinct}
+use Rattle.tables.specs.Work.{ListRule}
 use Rattle.tables.specs.Fitting.{Fits}
 use Rattle.tables.proofs.Sizes.{long-checked, long-fewer}
 use Rattle.tables.proofs.Refusing.{Lent, lent-leaves, lent-passes, lent-refuses}
@@ -20,12 +22,13 @@ use Rattle.tables.specs.Keeping.{Kept, KeptVisited}
 use Rattle.tables.proofs.Keeping.{kept-none, kept-trans}
 use Rattle.audit.specs.declared.answer.Audit.the-variants.{Fits as Yes, Unfit as No, Refused}
 use Rattle.audit.specs.Facts.{All, stateFits, stepFits, keyFits, stepsInto, TableFacts}
-use Rattle.audit.specs.Parts.{Below, ListFits, Answered, Claims, Judged}
+use Rattle.audit.specs.Parts.{Below, ApartKeys, Differ, ListFits, Answered, Claims, Judged}
 use Rattle.audit.specs.Audited.{auditRefusal, Audited}
 use Rattle.audit.proofs.Reading.{StepFacts, decides-state, decides-step}
 use Rattle.audit.proofs.Canonical.{canonical-legal}
 use Rattle.audit.proofs.Founding.{canonicalOf, founded}
 use Rattle.audit.proofs.Meeting.{met}
+use Rattle.audit.proofs.Differing.{apart-distinct}
 
 -- Tables fit exactly where the facts hold: "some legal history gives" them.
 pub facts-fit : (g : Graph) (t : Tables) → g .steps ≤ length (t .from) → g .steps ≤ length (t .to) → g .steps ≤ length (t .key) → TableFacts (g .n) (g .steps) t ↔ Fits g t
@@ -44,29 +47,37 @@ ends-below n m status marks from to a = (λ p h. fact p h .source, λ p h. fact 
     fact : (p : ℕ) → p < m → StepFacts n status marks (getD from p 0) (getD to p 0)
     fact p h = decides-step n status marks (getD from p 0) (getD to p 0) .sound (a p h)
 
+-- Where steps, keys and lists fit, no two steps that walks meet are equal exactly where no two listed ones are.
+apart-facts : {n m : ℕ} (t : Tables) → All m (λ p. stepFits n (t .status) (t .marks) (getD (t .from) p 0) (getD (t .to) p 0)) → All m (λ p. keyFits (getD (t .key) p 0)) → ListRule n m (t .to) (t .inHead) (t .inNext) → ApartKeys n (stepsInto n m t) (t .key) ↔ Distinct m (t .from) (t .to) (t .key)
+apart-facts {n} {m} t steps keys rule = apart-distinct (t .from) (t .key) rule (ends-below n m (t .status) (t .marks) (t .from) (t .to) steps .1) keys
+
+pub alike : {n m : ℕ} (t : Tables) {r : Bool} {queue queue′ : List ℕ} → Differ n (ApartKeys n (stepsInto n m t) (t .key)) queue queue′ r → r ≡ false → TableFacts n m t → ⊥
+alike t d e f = false≢true (sym e ∙ d .exact .1 (apart-facts t (f .steps) (f .keys) (f .into) .1 (f .distinct)))
+
 -- A no: some fact fails.
 pub denied : {n m : ℕ} {t : Tables} {queue visited : List ℕ} → (TableFacts n m t → ⊥) → Kept n (t .queue) queue → KeptVisited n (t .visited) visited → Judged n m t false queue visited
 denied f q v = record { exact = (λ e. absurd (false≢true e), λ t. absurd (f t)); none = λ e. absurd (false≢true e); visits = v; queues = q }
 
 -- The last part decides where all others passed.
 pub judged :
-    {n m : ℕ} (t : Tables) {a b k c d r : Bool} {queue₁ queue₂ queue visited : List ℕ} →
+    {n m : ℕ} (t : Tables) {a b k c d e r : Bool} {queue₁ queue₂ queue₃ queue visited : List ℕ} →
     (a ≡ true) ↔ All n (stateFits m (t .status) (t .marks) (t .from) (t .successor) (t .inHead) (t .outHead) (t .visited)) → a ≡ true →
     (b ≡ true) ↔ All m (λ p. stepFits n (t .status) (t .marks) (getD (t .from) p 0) (getD (t .to) p 0)) → b ≡ true →
     (k ≡ true) ↔ All m (λ p. keyFits (getD (t .key) p 0)) → k ≡ true →
     ListFits n m (t .to) (t .inHead) (t .inNext) (t .queue) queue₁ c → c ≡ true →
     ListFits n m (t .from) (t .outHead) (t .outNext) queue₁ queue₂ d → d ≡ true →
-    Answered n (Claims n (stepsInto n m t) (t .status) (t .marks) (t .successor)) (t .visited) queue₂ visited queue r →
+    Differ n (ApartKeys n (stepsInto n m t) (t .key)) queue₂ queue₃ e → e ≡ true →
+    Answered n (Claims n (stepsInto n m t) (t .status) (t .marks) (t .successor)) (t .visited) queue₃ visited queue r →
     Judged n m t r queue visited
-judged t states sa steps sb keys sk into sc outOf sd claims =
+judged {n} {m} t states sa steps sb keys sk into sc outOf sd differ se claims =
     record {
       exact = (
-        λ e. record { states = states .0 sa; steps = steps .0 sb; keys = keys .0 sk; into = into .exact .0 sc; outOf = outOf .exact .0 sd; lives = claims .exact .0 e .0; escapes = claims .exact .0 e .1 },
+        λ e. record { states = states .0 sa; steps = steps .0 sb; keys = keys .0 sk; distinct = apart-facts t (steps .0 sb) (keys .0 sk) (into .exact .0 sc) .0 (differ .exact .0 se); into = into .exact .0 sc; outOf = outOf .exact .0 sd; lives = claims .exact .0 e .0; escapes = claims .exact .0 e .1 },
         λ f. claims .exact .1 (f .lives, f .escapes),
       );
       none = λ e. claims .none;
       visits = claims .visits;
-      queues = kept-trans (into .kept) (kept-trans (outOf .kept) (claims .queues));
+      queues = kept-trans (into .kept) (kept-trans (outOf .kept) (kept-trans (differ .kept) (claims .queues)));
     }
 
 module _ (g : Graph) (t : Tables) where

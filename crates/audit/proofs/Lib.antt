@@ -5,6 +5,8 @@ pub mod Founding
 pub mod Meeting
 pub mod Looping
 pub mod Chaining
+pub mod BitLaws
+pub mod Differing
 pub mod Gathering
 pub mod Judging
 pub mod Checking

@@ -26,7 +26,7 @@ use Rattle.tables.specs.Marks.{hasNamed, hasTerminal, hasClosed}
 use Rattle.tables.specs.Work.{ListRule}
 use Rattle.tables.specs.Fitting.{StepAt, marksOf, Consistent}
 use Rattle.tables.proofs.Bits.{bits, byte, marks-bits, decides-closed-mark}
-use Rattle.tables.proofs.Listed.{lists-of, step-in-list, list-has-step, listed-key}
+use Rattle.tables.proofs.Listed.{lists-of, step-in-list, list-has-step, listed-key, consistent-distinct}
 use Rattle.adjacency.proofs.Walks.{linked, meets-none, clamp-keeps}
 use Rattle.search.specs.declared.spread.Mode.the-variants.{Tree, Claimed}
 use Rattle.search.specs.Spreading.{start, back}
@@ -150,6 +150,7 @@ module _ {h : History} {g : Graph} {t : Tables} (c : Consistent h g t) where
         states = λ s k. decides-state (g .steps) (t .status) (t .marks) (t .from) (t .successor) (t .inHead) (t .outHead) (t .visited) s .complete (state s k);
         steps = λ p k. decides-step (g .n) (t .status) (t .marks) (getD (t .from) p 0) (getD (t .to) p 0) .complete (step p k);
         keys = λ p k. le-leb (getD (t .key) p 0) maxKey (listed-key c p k);
+        distinct = consistent-distinct c;
         into = c .into;
         outOf = c .outOf;
         lives = λ s k e. let l = status-live h s .0 (sym (c .status s k) ∙ e) in live-backed (l .1) (l .2) k;

@@ -12,6 +12,7 @@ use Rattle.gid.specs.Systems.{Arcs}
 use Rattle.gid.specs.Refusals.{maxKey}
 use Rattle.tables.specs.Tables.{Tables}
 use Rattle.tables.specs.Marks.{hasNamed, hasTerminal}
+use Rattle.tables.specs.Listing.{Distinct}
 use Rattle.tables.specs.Work.{ListRule}
 use Rattle.tables.specs.Visits.{marked}
 use Rattle.search.specs.declared.spread.Mode.{Mode}
@@ -94,6 +95,7 @@ pub record TableFacts (n m : ℕ) (t : Tables) : Type 0 where
   pub states : All n (stateFits m (t .status) (t .marks) (t .from) (t .successor) (t .inHead) (t .outHead) (t .visited))
   pub steps : All m (λ p. stepFits n (t .status) (t .marks) (getD (t .from) p 0) (getD (t .to) p 0))
   pub keys : All m (λ p. keyFits (getD (t .key) p 0))
+  pub distinct : Distinct m (t .from) (t .to) (t .key)
   pub into : ListRule n m (t .to) (t .inHead) (t .inNext)
   pub outOf : ListRule n m (t .from) (t .outHead) (t .outNext)
   -- A live state reaches a terminal one through live states.

@@ -4,19 +4,21 @@ use mathlib.Core.Path.{_≡_}
 use mathlib.Core.Logic.{_↔_}
 use mathlib.Core.Bool.{Bool, true, false}
 use mathlib.Core.List.{List}
-use Prim.Native.Nat.{ℕ, _+_, _<_}
+use Prim.Native.Nat.{ℕ, _+_, _-_, _≤_, _<_}
 use lib.ListN.{getD, set}
 use Rattle.gid.specs.Statuses.{statusUnknown, statusLive}
 use Rattle.gid.specs.Systems.{Arcs}
 use Rattle.tables.specs.Tables.{Tables}
 use Rattle.tables.specs.Work.{ListRule, lastBefore}
 use Rattle.tables.specs.Visits.{NoneVisited, marked}
+use Rattle.tables.specs.Fitting.{AllBelow}
 use Rattle.tables.specs.Keeping.{Kept, KeptVisited}
 use Rattle.search.specs.declared.spread.Mode.the-variants.{Tree, Claimed}
 use Rattle.search.specs.declared.spread.Span.{Span}
 use Rattle.search.specs.Spreading.{Before, Queued}
 use Rattle.search.specs.Offering.{Admitted}
 use Rattle.audit.specs.Facts.{Passes, Backs, TableFacts}
+use Rattle.audit.specs.Bits.{hasBit, withBit}
 
 -- The ends of the first m steps are states.
 abbrev pub Below : ℕ → ℕ → List ℕ → Type 0
@@ -47,6 +49,42 @@ pub record NextsFit (n m : ℕ) (ends next last last′ : List ℕ) (r : Bool) :
 pub record ListFits (n m : ℕ) (ends head next last last′ : List ℕ) (r : Bool) : Type 0 where
   pub exact : (r ≡ true) ↔ ListRule n m ends head next
   pub kept : Kept n last last′
+
+-- A key is one of the 16 from a base.
+abbrev pub KeyIn : ℕ → ℕ → Type 0
+KeyIn base k = (base ≤ k) × (k < base + 16)
+
+-- The step from u with the key k is noted at u by its bit, where k is in the range and no step like it was.
+pub data Noted (base u k : ℕ) (seen seen′ : List ℕ) (r : Bool) : Type 0 where
+  outside : r ≡ true → (KeyIn base k → ⊥) → seen′ ≡ seen → Noted base u k seen seen′ r
+  again : r ≡ false → KeyIn base k → hasBit (k - base) (getD seen u 0) ≡ true → seen′ ≡ seen → Noted base u k seen seen′ r
+  new : r ≡ true → KeyIn base k → hasBit (k - base) (getD seen u 0) ≡ false → seen′ ≡ set seen u (withBit (k - base) (getD seen u 0)) → Noted base u k seen seen′ r
+
+-- No two steps into v have the same source and the same key, in the range.
+abbrev pub Apart : ℕ → Arcs → List ℕ → ℕ → Type 0
+Apart base Arc key v = (u p q : ℕ) → p < q → Arc u p v → Arc u q v → getD key p 0 ≡ getD key q 0 → KeyIn base (getD key p 0) → ⊥
+
+abbrev pub ApartAll : ℕ → ℕ → Arcs → List ℕ → Type 0
+ApartAll base n Arc key = (v : ℕ) → v < n → Apart base Arc key v
+
+-- So it is in both ranges of keys.
+abbrev pub ApartKeys : ℕ → Arcs → List ℕ → Type 0
+ApartKeys n Arc key = ApartAll 0 n Arc key × ApartAll 16 n Arc key
+
+-- Only entries of sources of steps into v are not 0.
+abbrev pub FromSources : ℕ → Arcs → ℕ → List ℕ → Type 0
+FromSources n Arc v seen = (u : ℕ) → u < n → (getD seen u 0 ≡ 0 → ⊥) → (p : ℕ) × Arc u p v
+
+pub record SourcesNoted (base n : ℕ) (Arc : Arcs) (key : List ℕ) (v : ℕ) (seen seen′ : List ℕ) (r : Bool) : Type 0 where
+  pub exact : (r ≡ true) ↔ Apart base Arc key v
+  pub noted : FromSources n Arc v seen′
+  pub kept : Kept n seen seen′
+
+-- Whether steps differ, as P says. After a yes nothing is noted.
+pub record Differ (n : ℕ) (P : Type 0) (seen seen′ : List ℕ) (r : Bool) : Type 0 where
+  pub exact : (r ≡ true) ↔ P
+  pub blank : r ≡ true → AllBelow n 0 seen′
+  pub kept : Kept n seen seen′
 
 -- A start is admitted, and any other state passed over.
 pub data Started (start : Bool) (s : ℕ) (visited queue : List ℕ) (span : Span) (visited′ queue′ : List ℕ) (span′ : Span) : Type 0 where

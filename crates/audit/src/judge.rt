@@ -1,9 +1,11 @@
-// Whether tables that are long enough fit: states and steps by their entries, then the lists of steps, then what the statuses claim.
+// Whether tables that are long enough fit: states and steps by their entries, then the lists of steps, then that no two steps are
+// equal, then what the statuses claim.
 ghost use mathlib.Core.List.{List, []};
 ghost use Prim.Native.Nat.{ℕ, _<_};
 ghost use Rattle.tables.specs.Tables.{tablesOf, Long};
 ghost use Rattle.audit.specs.Parts.{Judged};
 use super::claims::claims_fit;
+use super::distinct::steps_differ;
 use super::lists::list_fits;
 use super::states::states_fit;
 use super::steps::keys_fit;
@@ -44,18 +46,20 @@ pub fn judge(
             if keys_fit(steps, key) {
                 if list_fits(n, steps, to, in_head, in_next, queue) {
                     if list_fits(n, steps, from, out_head, out_next, queue) {
-                        return claims_fit(
-                            n,
-                            steps,
-                            status,
-                            marks,
-                            from,
-                            successor,
-                            in_head,
-                            in_next,
-                            queue,
-                            visited,
-                        );
+                        if steps_differ(n, steps, from, key, in_head, in_next, queue) {
+                            return claims_fit(
+                                n,
+                                steps,
+                                status,
+                                marks,
+                                from,
+                                successor,
+                                in_head,
+                                in_next,
+                                queue,
+                                visited,
+                            );
+                        }
                     }
                 }
             }

@@ -13,6 +13,7 @@ use denote.Enum.Declared.{tagOf}
 use Rattle.gid.specs.declared.Edge.{Edge}
 use Rattle.gid.specs.declared.Update.{Update}
 use Rattle.gid.specs.declared.Update.the-variants.{Step, Terminal, Close}
+use Rattle.gid.specs.Updates.{source}
 use Rattle.gid.specs.Statuses.{statusLive}
 use Rattle.gid.specs.Systems.{Arcs}
 use Rattle.gid.proofs.Update.{the-type}
@@ -20,9 +21,15 @@ use Rattle.tables.specs.Marks.{withNamed}
 use Rattle.adjacency.specs.Walks.{Pushed}
 use Rattle.search.specs.Escaping.{Escape, Near}
 use Rattle.engine.specs.Effects.{markAt, setMarks}
-use Rattle.engine.specs.Preparing.{nameAt, namesAfter, InRange, KeyBelow, Free}
+use Rattle.engine.specs.Preparing.{nameAt, namesAfter, statusAgain, marksAgain, InRange, KeyBelow, Free}
 use Rattle.engine.specs.Judging.{unlessLive, quickened, endangered}
 use Rattle.engine.specs.Done.{Listed, pushed, same}
+
+-- The first state of an update in range.
+pub source-below : (n : ℕ) (x : Update) → InRange n x → source x < n
+source-below n (Step e) s = s .0
+source-below n (Terminal u) s = s
+source-below n (Close u) s = s
 
 -- What is known of an update, where it is known which it is.
 pub in-range-as : (n : ℕ) {x y : Update} → x ≡ y → InRange n x → InRange n y
@@ -44,6 +51,14 @@ listed-none m (Step e) (inl k) = absurd (omega arith)
 listed-none m (Step e) (inr k) = absurd (omega arith)
 listed-none m (Terminal u) k = record { sources = refl; targets = refl; keys = refl; chained = same refl refl refl refl refl }
 listed-none m (Close u) k = record { sources = refl; targets = refl; keys = refl; chained = same refl refl refl refl refl }
+
+-- An update that comes again and is no step names nothing.
+pub names-none : (x : Update) (status marks : List ℕ) → OneOf (1 ∷ 2 ∷ []) (tagOf the-type x) → (status ≡ statusAgain x status) × (marks ≡ marksAgain x marks)
+unfolding statusAgain marksAgain
+names-none (Step e) status marks (inl k) = absurd (omega arith)
+names-none (Step e) status marks (inr k) = absurd (omega arith)
+names-none (Terminal u) status marks k = (refl, refl)
+names-none (Close u) status marks k = (refl, refl)
 
 -- The marks of both ends of a step,
 pub marks-both : (marks : List ℕ) (e : Edge) {marks₁ marks₂ : List ℕ} → marks₁ ≡ markAt withNamed (e .from) marks → marks₂ ≡ markAt withNamed (e .to) marks₁ → marks₂ ≡ setMarks (Step e) marks

@@ -8,7 +8,7 @@ use mathlib.Core.Option.{some, none}
 use Prim.Native.Nat.{ℕ, _<_, _≤_}
 use lib.ListN.{getD}
 use Rattle.gid.specs.declared.Update.{Update}
-use Rattle.gid.specs.Histories.{History, MayFollow, Legal, Continues}
+use Rattle.gid.specs.Histories.{History, MayFollow, Legal, Continues, isIn, listed}
 use Rattle.gid.specs.Statuses.{status, statusLive, statusDead}
 use Rattle.gid.specs.News.{news}
 use Rattle.gid.specs.Pruning.{Pruned}
@@ -28,12 +28,12 @@ use Rattle.engine.specs.Runs.{Run, Agree}
 use Rattle.engine.proofs.Running.{was-accepted, Sound, sound, sound-checked, not-refused, may-follow}
 use Rattle.engine.proofs.Twins.{agree}
 
--- Demand 1. "In any call of a run from fresh tables (first or later, with the state value that the run has there), n and the step limit being in bounds, an update with its states in range and its first state not closed is accepted, if the tables are long enough and, for a step, the step list has a free place", a close also where its state is closed (document 02, #102). "On any tables, every update to which a number of document 01 applies gets the first such number, an empty news list, and all tables as before."
+-- Demand 1. "In any call of a run from fresh tables (first or later, with the state value that the run has there), n and the step limit being in bounds, an update with its states in range and its first state not closed is accepted, if the tables are long enough and, for a step, the step list has a free place", or an equal step is listed (document 02, #103), a close also where its state is closed (#102). "On any tables, every update to which a number of document 01 applies gets the first such number, an empty news list, and all tables as before."
 pub demand-1 :
     ((g₀ g g′ : Graph) (t₀ t t₁ t′ : Tables) (xs : List Update) (h : History) (a : Answer) →
     Fresh g₀ t₀ → Run g₀ t₀ xs h g t → Checked g t t₁ →
     0 < g .n → g .n ≤ maxStates → 0 < g .limit → g .limit ≤ maxSteps → longEnough g t₁ ≡ true →
-    (x : Update) → Sendable (g .n) (g .limit) (g .steps) x → MayFollow h x →
+    (x : Update) → Sendable (g .n) (g .limit) (g .steps) (isIn (listed h)) x → MayFollow h x →
     Promise g x t₁ g′ a t′ → answerNumber a ≡ none) ×
     ((g g′ : Graph) (t t′ : Tables) (a : Answer) (x : Update) →
     Promise g x t g′ a t′ → (k : ℕ) → refusalOn g t x ≡ some k → (answerNumber a ≡ some k) × (newsOf a (t′ .news) ≡ []) × (g′ ≡ g) × (t′ ≡ t))

@@ -12,7 +12,7 @@ use borrow.Author.Tests.{lt-leb}
 use Rattle.gid.specs.declared.Edge.{Edge}
 use Rattle.gid.specs.declared.Update.{Update}
 use Rattle.gid.specs.declared.Update.the-variants.{Step, Terminal, Close}
-use Rattle.gid.specs.Histories.{added}
+use Rattle.gid.specs.Histories.{stepOf}
 use Rattle.gid.specs.Statuses.{statusUnknown}
 use Rattle.gid.specs.Systems.{Arcs}
 use Rattle.gid.specs.News.{below}
@@ -29,13 +29,13 @@ use Rattle.search.specs.Searches.{SearchTables, Revives, Sweeps}
 use Rattle.search.proofs.Settling.{told-same}
 use Rattle.tables.specs.Marks.{withNamed, withTerminal, withClosed}
 use Rattle.engine.specs.Effects.{markAt, setMarks}
-use Rattle.engine.specs.Preparing.{nameAt, namedByte, namesAfter, InRange}
+use Rattle.engine.specs.Preparing.{nameAt, namedByte, namesAfter, InRange, Storable}
 use Rattle.engine.specs.Judging.{Judged, quiet, revived, nears, swept, unknownAt, followedBy, begunWith}
 use Rattle.engine.specs.Done.{Done, Chained, pushed, same}
 use Rattle.engine.specs.declared.Answer.the-variants.{Accepted}
-use Rattle.engine.specs.Promise.{NewsKept, Sendable}
+use Rattle.engine.specs.Promise.{NewsKept}
 use Rattle.engine.proofs.Acting.{quickened-state, endangered-state}
-use Rattle.engine.proofs.Preparing.{sendable-range}
+use Rattle.engine.proofs.Preparing.{storable-range}
 
 -- What a search keeps of the tables that it writes.
 pub record KeptSearch (n : ℕ) (b a : SearchTables) (k : ℕ) : Type 0 where
@@ -141,17 +141,17 @@ kept-name n u l h = kept-set n l u (namedByte (getD l u 0)) h
 
 -- the marks, the names and the step list
 module _ (n limit m : ℕ) where
-  marks-kept : (x : Update) → InRange n x → (l : List ℕ) → Kept n l (setMarks x l)
+  pub marks-kept : (x : Update) → InRange n x → (l : List ℕ) → Kept n l (setMarks x l)
   marks-kept (Step e) s l = kept-trans (kept-mark n withNamed (e .from) l (s .0)) (kept-mark n withNamed (e .to) (markAt withNamed (e .from) l) (s .1))
   marks-kept (Terminal u) s l = kept-trans (kept-mark n withNamed u l s) (kept-mark n withTerminal u (markAt withNamed u l) s)
   marks-kept (Close u) s l = kept-trans (kept-mark n withNamed u l s) (kept-mark n withClosed u (markAt withNamed u l) s)
 
-  names-kept : (x : Update) → InRange n x → (l : List ℕ) → Kept n l (namesAfter x l)
+  pub names-kept : (x : Update) → InRange n x → (l : List ℕ) → Kept n l (namesAfter x l)
   names-kept (Step e) s l = kept-trans (kept-name n (e .from) l (s .0)) (kept-name n (e .to) (nameAt (e .from) l) (s .1))
   names-kept (Terminal u) s l = kept-name n u l s
   names-kept (Close u) s l = kept-name n u l s
 
-  list-kept : (f : Edge → ℕ) (x : Update) → Sendable n limit m x → (l : List ℕ) → Kept limit l (sets l m (map f (added x)))
+  list-kept : (f : Edge → ℕ) (x : Update) → Storable n limit m x → (l : List ℕ) → Kept limit l (sets l m (map f (stepOf x)))
   list-kept f (Step e) s l = kept-set limit l m (f e) (s .2)
   list-kept f (Terminal u) s l = kept-none limit l
   list-kept f (Close u) s l = kept-none limit l
@@ -163,7 +163,7 @@ record KeptChains (n limit : ℕ) (t t′ : Tables) : Type 0 where
   inNext : Kept limit (t .inNext) (t′ .inNext)
   outNext : Kept limit (t .outNext) (t′ .outNext)
 
-chains-kept : {n limit m : ℕ} (t t′ : Tables) {x : Update} → Sendable n limit m x → Chained m (t .inHead) (t .outHead) (t .inNext) (t .outNext) (t′ .inHead) (t′ .outHead) (t′ .inNext) (t′ .outNext) x → KeptChains n limit t t′
+chains-kept : {n limit m : ℕ} (t t′ : Tables) {x : Update} → Storable n limit m x → Chained m (t .inHead) (t .outHead) (t .inNext) (t .outNext) (t′ .inHead) (t′ .outHead) (t′ .inNext) (t′ .outNext) x → KeptChains n limit t t′
 chains-kept {n} {limit} {m} t t′ s (pushed e o i) =
     record {
       inHead = rw (i .front) (kept-set n (t .inHead) (e .to) (m + 1) (s .1));
@@ -174,9 +174,9 @@ chains-kept {n} {limit} {m} t t′ s (pushed e o i) =
 chains-kept t t′ s (same z a b c d) = record { inHead = kept-equal a; outHead = kept-equal b; inNext = kept-equal c; outNext = kept-equal d }
 
 -- and all of them
-pub done-keeps : {n limit m : ℕ} {t t′ : Tables} {x : Update} {k : ℕ} → Sendable n limit m x → Done n m t t′ k x → KeptTables n n limit t t′ × NewsKept n (t .news) (t′ .news) (Accepted k)
+pub done-keeps : {n limit m : ℕ} {t t′ : Tables} {x : Update} {k : ℕ} → Storable n limit m x → Done n m t t′ k x → KeptTables n n limit t t′ × NewsKept n (t .news) (t′ .news) (Accepted k)
 done-keeps {n} {limit} {m} {t} {t′} {x} s d =
-    let r = sendable-range n limit m x s in
+    let r = storable-range n limit m x s in
     let w = kept-judged x r (d .judged) in
     let l = chains-kept t t′ s (d .listed .chained) in (
       record {

@@ -12,7 +12,7 @@ use Rattle.gid.specs.declared.Edge.{Edge}
 use Rattle.gid.specs.declared.Update.{Update}
 use Rattle.gid.specs.declared.Update.the-variants.{Step, Terminal, Close}
 use Rattle.gid.specs.Updates.{Mentions}
-use Rattle.gid.specs.Histories.{History, Has, IsNamed, added, listed}
+use Rattle.gid.specs.Histories.{History, Has, IsNamed, isIn, added, stepOf, listed}
 use Rattle.gid.specs.Refusals.{maxKey}
 use Rattle.tables.specs.declared.Graph.{Graph}
 use Rattle.tables.specs.Work.{ListRule}
@@ -39,23 +39,23 @@ range-after {h} n x r c s m = ⊎-elim (λ e. newest x r (subst (λ (y : Update)
     newest (Terminal u) q z = subst (λ (a : ℕ). a < n) z q
     newest (Close u) q z = subst (λ (a : ℕ). a < n) z q
 
--- what an update adds, stored behind m entries
-pub stored : (f : Edge → ℕ) (h : History) (x : Update) (m : ℕ) (l : List ℕ) → Free m x l → take m l ≡ map f (listed h) → take (m + length (added x)) (sets l m (map f (added x))) ≡ map f (listed (x ∷ h))
+-- what an update adds that is no repeat, stored behind m entries
+pub stored : (f : Edge → ℕ) (h : History) (x : Update) → added (isIn (listed h)) x ≡ stepOf x → (m : ℕ) (l : List ℕ) → Free m x l → take m l ≡ map f (listed h) → take (m + length (stepOf x)) (sets l m (map f (stepOf x))) ≡ map f (listed (x ∷ h))
 unfolding listed
-stored f h (Step e) m l r q = rw (map-append f (listed h) (e ∷ []), add-one m, take-suc-set l m (f e) r, q)
-stored f h (Terminal u) m l r q = let z : m + 0 ≡ m = omega arith in rw (z, append-nil (listed h)) q
-stored f h (Close u) m l r q = let z : m + 0 ≡ m = omega arith in rw (z, append-nil (listed h)) q
+stored f h (Step e) w m l r q = rw (w, map-append f (listed h) (e ∷ []), add-one m, take-suc-set l m (f e) r, q)
+stored f h (Terminal u) w m l r q = let z : m + 0 ≡ m = omega arith in rw (z, append-nil (listed h)) q
+stored f h (Close u) w m l r q = let z : m + 0 ≡ m = omega arith in rw (z, append-nil (listed h)) q
 
 -- The step list of the history with x.
 pub lists-after :
-    {h : History} (g : Graph) (x : Update) {from to : List ℕ} → Free (g .steps) x from → Free (g .steps) x to → ListsSteps h (g .steps) from to →
-    ListsSteps (x ∷ h) (graphAfter g x .steps) (fromAfter (g .steps) x from) (toAfter (g .steps) x to)
+    {h : History} (g : Graph) (x : Update) → added (isIn (listed h)) x ≡ stepOf x → {from to : List ℕ} → Free (g .steps) x from → Free (g .steps) x to → ListsSteps h (g .steps) from to →
+    ListsSteps (x ∷ h) (graphAfter g (stepOf x) .steps) (fromAfter (g .steps) (stepOf x) from) (toAfter (g .steps) (stepOf x) to)
 unfolding listed
-lists-after {h} g x {from} {to} a b l =
+lists-after {h} g x w {from} {to} a b l =
     record {
-      count = rw (length-append, l .count);
-      froms = stored (λ (e : Edge). e .from) h x (g .steps) from a (l .froms);
-      tos = stored (λ (e : Edge). e .to) h x (g .steps) to b (l .tos);
+      count = rw (w, length-append, l .count);
+      froms = stored (λ (e : Edge). e .from) h x w (g .steps) from a (l .froms);
+      tos = stored (λ (e : Edge). e .to) h x w (g .steps) to b (l .tos);
     }
 
 -- A step that is stored behind the m listed ones and put in front of the steps at its end keeps the list rule.

@@ -9,7 +9,7 @@ use lib.ListN.{length, getD}
 use Rattle.gid.specs.declared.Update.{Update}
 use Rattle.gid.specs.declared.Update.the-variants.{Step, Terminal, Close}
 use Rattle.gid.specs.Updates.{edge}
-use Rattle.gid.specs.Histories.{History, IsNamed}
+use Rattle.gid.specs.Histories.{History, IsNamed, isIn, added, stepOf, listed}
 use Rattle.gid.specs.Systems.{ListedAt}
 use Rattle.gid.specs.Successors.{SuccessorRule}
 use Rattle.gid.specs.Refusals.{maxKey}
@@ -23,9 +23,8 @@ use Rattle.tables.specs.Fitting.{StepAt, Consistent}
 use Rattle.tables.proofs.Listed.{ListsSteps, arcs-listed, lists-of}
 use Rattle.adjacency.proofs.Walks.{linked}
 use Rattle.search.specs.Spreading.{chains, into, outOf}
-use Rattle.engine.specs.Preparing.{InRange, KeyBelow, Free}
+use Rattle.engine.specs.Preparing.{InRange, KeyBelow, Free, Storable}
 use Rattle.engine.specs.Done.{Chained, pushed, same, Listed, Room}
-use Rattle.engine.specs.Promise.{Sendable}
 use Rattle.engine.proofs.Listing.{range-after, lists-after, rule-after}
 
 -- The tables list the m steps of the history f over n states.
@@ -60,27 +59,27 @@ rule-listed {h} {g} {t} c =
     (λ s p v. arcs-listed (lists-of c) s p v .0) (λ s q. refl) (c .successor)
 
 -- An update that may be sent is in range, with its key, and a table that is long enough for the limit has a place for it.
-pub sendable-range : (n limit m : ℕ) (x : Update) → Sendable n limit m x → InRange n x
-sendable-range n limit m (Step e) s = (s .0, s .1)
-sendable-range n limit m (Terminal u) s = s
-sendable-range n limit m (Close u) s = s
+pub storable-range : (n limit m : ℕ) (x : Update) → Storable n limit m x → InRange n x
+storable-range n limit m (Step e) s = (s .0, s .1)
+storable-range n limit m (Terminal u) s = s
+storable-range n limit m (Close u) s = s
 
-pub sendable-key : (n limit m : ℕ) (x : Update) → Sendable n limit m x → KeyBelow (maxKey + 1) x
-sendable-key n limit m (Step e) s = omega (arith, s .3)
-sendable-key n limit m (Terminal u) s = tt
-sendable-key n limit m (Close u) s = tt
+pub storable-key : (n limit m : ℕ) (x : Update) → Storable n limit m x → KeyBelow (maxKey + 1) x
+storable-key n limit m (Step e) s = omega (arith, s .3)
+storable-key n limit m (Terminal u) s = tt
+storable-key n limit m (Close u) s = tt
 
-pub sendable-free : (n limit m : ℕ) (x : Update) → Sendable n limit m x → (l : List ℕ) → limit ≤ length l → Free m x l
-sendable-free n limit m (Step e) s l h = omega (arith, s .2)
-sendable-free n limit m (Terminal u) s l h = tt
-sendable-free n limit m (Close u) s l h = tt
+pub storable-free : (n limit m : ℕ) (x : Update) → Storable n limit m x → (l : List ℕ) → limit ≤ length l → Free m x l
+storable-free n limit m (Step e) s l h = omega (arith, s .2)
+storable-free n limit m (Terminal u) s l h = tt
+storable-free n limit m (Close u) s l h = tt
 
 module _ {h : History} {g : Graph} {t : Tables} (c : Consistent h g t) (room : Room (g .n) (nodesOf g) (g .limit) (g .steps) t) (t′ : Tables) where
   -- The chains keep their rule.
   rules :
-      (x : Update) → Sendable (g .n) (g .limit) (g .steps) x → t′ .from ≡ fromAfter (g .steps) x (t .from) → t′ .to ≡ toAfter (g .steps) x (t .to) →
+      (x : Update) → Storable (g .n) (g .limit) (g .steps) x → t′ .from ≡ fromAfter (g .steps) (stepOf x) (t .from) → t′ .to ≡ toAfter (g .steps) (stepOf x) (t .to) →
       Chained (g .steps) (t .inHead) (t .outHead) (t .inNext) (t .outNext) (t′ .inHead) (t′ .outHead) (t′ .inNext) (t′ .outNext) x →
-      ListRule (g .n) (graphAfter g x .steps) (t′ .to) (t′ .inHead) (t′ .inNext) × ListRule (g .n) (graphAfter g x .steps) (t′ .from) (t′ .outHead) (t′ .outNext)
+      ListRule (g .n) (graphAfter g (stepOf x) .steps) (t′ .to) (t′ .inHead) (t′ .inNext) × ListRule (g .n) (graphAfter g (stepOf x) .steps) (t′ .from) (t′ .outHead) (t′ .outNext)
   rules x s a b (pushed e o i) = (
     rw b (rule-after (e .to) (c .into) i (room .long .inHead) (omega (arith, s, room .long .inNext)) (omega (arith, s, room .long .to)) (s .1)),
     rw a (rule-after (e .from) (c .outOf) o (room .long .outHead) (omega (arith, s, room .long .outNext)) (omega (arith, s, room .long .from)) (s .0)),
@@ -91,15 +90,15 @@ module _ {h : History} {g : Graph} {t : Tables} (c : Consistent h g t) (room : R
 
   -- The tables list the steps of the history with x.
   pub prepared :
-      (x : Update) → Sendable (g .n) (g .limit) (g .steps) x →
+      (x : Update) → added (isIn (listed h)) x ≡ stepOf x → Storable (g .n) (g .limit) (g .steps) x →
       Listed (g .steps) x (t .from) (t .to) (t .key) (t .inHead) (t .outHead) (t .inNext) (t .outNext) (t′ .from) (t′ .to) (t′ .key) (t′ .inHead) (t′ .outHead) (t′ .inNext) (t′ .outNext) →
-      Prepared (x ∷ h) (g .n) (graphAfter g x .steps) t′
-  prepared x s l =
-      let free = sendable-free (g .n) (g .limit) (g .steps) x s in
+      Prepared (x ∷ h) (g .n) (graphAfter g (stepOf x) .steps) t′
+  prepared x w s l =
+      let free = storable-free (g .n) (g .limit) (g .steps) x s in
       let r = rules x s (l .sources) (l .targets) (l .chained) in
       record {
-        inRange = range-after (g .n) x (sendable-range (g .n) (g .limit) (g .steps) x s) (c .inRange);
-        lists = rw (l .sources, l .targets) (lists-after g x (free (t .from) (room .long .from)) (free (t .to) (room .long .to)) (lists-of c));
+        inRange = range-after (g .n) x (storable-range (g .n) (g .limit) (g .steps) x s) (c .inRange);
+        lists = rw (l .sources, l .targets) (lists-after g x w (free (t .from) (room .long .from)) (free (t .to) (room .long .to)) (lists-of c));
         into = r .0;
         outOf = r .1;
       }

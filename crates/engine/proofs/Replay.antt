@@ -1,7 +1,7 @@
 -- On tables that fit for a legal history the engine answers what the definitions say: refusals, news and the history after the update.
 -- Assumes nothing.
 use mathlib.Core.Path.{_≡_, refl, _∙_, ap}
-use mathlib.Core.Bool.{Bool, true, false, cond, _||_}
+use mathlib.Core.Bool.{Bool, true, false, not, cond, _&&_, _||_}
 use mathlib.Core.List.{List, [], _∷_, _++_}
 use mathlib.Core.Option.{Option, some, none}
 use Prim.Native.Nat.{ℕ}
@@ -10,7 +10,7 @@ use lib.ListN.{length, getD}
 use borrow.Author.Tests.{leb-false}
 use Rattle.gid.specs.declared.Update.{Update}
 use Rattle.gid.specs.declared.Update.the-variants.{Step, Terminal, Close}
-use Rattle.gid.specs.Histories.{History, listed}
+use Rattle.gid.specs.Histories.{History, isIn, listed}
 use Rattle.gid.specs.Statuses.{isClosed}
 use Rattle.gid.specs.News.{news}
 use Rattle.gid.specs.Refusals.{Rule, first, lent, sent, refusal, maxKey}
@@ -18,9 +18,11 @@ use Rattle.gid.specs.Outcomes.{accepted, byNumber, givenAfter, outcome, after}
 use Rattle.tables.specs.declared.Graph.{Graph}
 use Rattle.tables.specs.Tables.{Tables, longEnough}
 use Rattle.tables.specs.Marks.{hasClosed}
+use Rattle.tables.specs.Listing.{listedOn}
 use Rattle.tables.specs.Refused.{isFull, refusalOn, given}
 use Rattle.tables.specs.Fitting.{Consistent}
 use Rattle.tables.proofs.Bits.{closed-same}
+use Rattle.tables.proofs.Listed.{listed-same}
 use Rattle.tables.proofs.Refusing.{neither}
 use Rattle.engine.specs.declared.Answer.{Answer}
 use Rattle.engine.specs.Answers.{answerNumber, newsOf, answerOutcome}
@@ -37,13 +39,13 @@ guarded true r′ e l l′ q = rw (← e)
 guarded false r′ e l l′ q = rw (← e) (q refl)
 
 module _ {h : History} {g : Graph} {t : Tables} (c : Consistent h g t) where
-  sent-same : (long : Bool) (x : Update) → first (sent (given g long (isFull g) (t .marks)) x) ≡ first (sent (givenAfter (g .n) (g .limit) h) x)
+  sent-same : (long : Bool) (x : Update) → first (sent (given g long (isFull g) (listedOn g t) (t .marks)) x) ≡ first (sent (givenAfter (g .n) (g .limit) h) x)
   unfolding givenAfter
   sent-same long (Step d) =
       guarded (leb (g .n) (d .from) || leb (g .n) (d .to)) (leb (g .n) (d .from) || leb (g .n) (d .to)) refl
-      (rule (ltb maxKey (d .key)) 14 ∷ rule (hasClosed (getD (t .marks) (d .from) 0)) 6 ∷ rule (isFull g) 9 ∷ [])
-      (rule (ltb maxKey (d .key)) 14 ∷ rule (isClosed h (d .from)) 6 ∷ rule (eqb (length (listed h)) (g .limit)) 9 ∷ [])
-      (λ e. let r = leb-false (g .n) (d .from) (neither (leb (g .n) (d .from)) (leb (g .n) (d .to)) e .0) in rw (closed-same c (d .from) r, c .steps))
+      (rule (ltb maxKey (d .key)) 14 ∷ rule (hasClosed (getD (t .marks) (d .from) 0)) 6 ∷ rule (isFull g && not (listedOn g t d)) 9 ∷ [])
+      (rule (ltb maxKey (d .key)) 14 ∷ rule (isClosed h (d .from)) 6 ∷ rule (eqb (length (listed h)) (g .limit) && not (isIn (listed h) d)) 9 ∷ [])
+      (λ e. let r = leb-false (g .n) (d .from) (neither (leb (g .n) (d .from)) (leb (g .n) (d .to)) e .0) in rw (closed-same c (d .from) r, listed-same c d, c .steps))
   sent-same long (Terminal u) =
       guarded (leb (g .n) u) (leb (g .n) u) refl (rule (hasClosed (getD (t .marks) u 0)) 6 ∷ []) (rule (isClosed h u) 6 ∷ [])
       (λ e. rw (closed-same c u (leb-false (g .n) u e)))
@@ -54,8 +56,8 @@ module _ {h : History} {g : Graph} {t : Tables} (c : Consistent h g t) where
   unfolding refusal givenAfter
   same-refusal e x =
       append-same
-      (lent (given g (longEnough g t) (isFull g) (t .marks))) (lent (givenAfter (g .n) (g .limit) h))
-      (sent (given g (longEnough g t) (isFull g) (t .marks)) x) (sent (givenAfter (g .n) (g .limit) h) x)
+      (lent (given g (longEnough g t) (isFull g) (listedOn g t) (t .marks))) (lent (givenAfter (g .n) (g .limit) h))
+      (sent (given g (longEnough g t) (isFull g) (listedOn g t) (t .marks)) x) (sent (givenAfter (g .n) (g .limit) h) x)
       (rw (e, c .steps))
       (sent-same (longEnough g t) x)
     where

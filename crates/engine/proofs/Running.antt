@@ -1,34 +1,38 @@
 -- What holds all along a run from fresh tables.
 -- Assumes nothing.
 use mathlib.Core.Path.{_≡_, refl, sym, _∙_, ap}
-use mathlib.Core.Bool.{true, false}
-use mathlib.Core.List.{List, _∷_}
+use mathlib.Core.Logic.{_⊎_, inl, inr}
+use mathlib.Core.Bool.{Bool, true, false, not, cond, _&&_, and-false}
+use mathlib.Core.List.{List, [], _∷_}
 use mathlib.Core.Option.{some, none}
-use Prim.Native.Nat.{ℕ, _<_, _≤_}
+use Prim.Native.Nat.{ℕ, _+_, _<_, _≤_}
 use native.Mathlib.Omega.{arith}
-use lib.ListN.{getD}
-use borrow.Author.Tests.{lt-leb, le-ltb, ne-eqb}
+use lib.ListN.{length, getD, length-append}
+use borrow.Author.Tests.{lt-leb, le-ltb, ne-eqb, eqb-false}
+use Rattle.gid.specs.declared.Edge.{Edge}
 use Rattle.gid.specs.declared.Update.{Update}
 use Rattle.gid.specs.declared.Update.the-variants.{Step, Terminal, Close}
 use Rattle.gid.specs.Updates.{source}
-use Rattle.gid.specs.Histories.{History, MayFollow, Legal, IsClosed}
+use Rattle.gid.specs.Histories.{History, MayFollow, Legal, IsClosed, isIn, added, listed}
 use Rattle.gid.specs.Refusals.{lent, sent, refusal, maxStates, maxSteps, maxKey}
 use Rattle.gid.proofs.Decide.{refutes, refuted}
 use Rattle.tables.specs.declared.Graph.{Graph}
 use Rattle.tables.specs.Tables.{Tables, lengths, longEnough}
 use Rattle.tables.specs.Marks.{hasClosed, closesAgain}
-use Rattle.tables.specs.Listing.{graphAfter}
-use Rattle.tables.specs.Refused.{isFull, given, refusalOn}
+use Rattle.tables.specs.Listing.{listedOn}
+use Rattle.tables.specs.Refused.{isFull, given, isAgain, refusalOn, placeNumber}
 use Rattle.tables.specs.Fitting.{Checked, Consistent, Fresh}
 use Rattle.tables.proofs.Bits.{decides-closed-mark}
 use Rattle.tables.proofs.Keeping.{lengths-kept}
+use Rattle.tables.proofs.Listed.{listed-same}
 use Rattle.tables.proofs.Refusing.{NoneApply, none-applies, first-none, accepted-passes}
 use Rattle.tables.proofs.Starting.{fresh-consistent}
 use Rattle.engine.specs.declared.Answer.{Answer}
 use Rattle.engine.specs.declared.Answer.the-variants.{Accepted, Refused}
 use Rattle.engine.specs.Promise.{AcceptedUpdate, Promise, Sendable}
 use Rattle.engine.specs.Runs.{Run, begun, accepted, refused}
-use Rattle.engine.proofs.Promising.{sendable-of, in-range}
+use Rattle.engine.proofs.Acting.{source-below}
+use Rattle.engine.proofs.Promising.{passed-of}
 
 -- What an accepting and a refusing answer tell.
 module _ {g : Graph} {x : Update} {t : Tables} {g′ : Graph} {t′ : Tables} {k : ℕ} where
@@ -38,10 +42,17 @@ module _ {g : Graph} {x : Update} {t : Tables} {g′ : Graph} {t′ : Tables} {k
   pub was-refused : Promise g x t g′ (Refused k) t′ → (refusalOn g t x ≡ some k) × (g′ ≡ g) × (t′ ≡ t)
   was-refused p = let r = p .refuses k (sym (p .number)) in (sym (p .number), r .1, r .2)
 
-steps-room : (g : Graph) (x : Update) → Sendable (g .n) (g .limit) (g .steps) x → g .steps ≤ g .limit → graphAfter g x .steps ≤ g .limit
-steps-room g (Step e) s h = omega (arith, s .2)
-steps-room g (Terminal u) s h = omega arith
-steps-room g (Close u) s h = omega arith
+-- what an accepted update adds has a place
+pub steps-room : (g : Graph) (x : Update) (marks : List ℕ) (has : Edge → Bool) → g .steps ≤ g .limit → cond (isAgain x marks has) 0 (placeNumber (isFull g) x) ≡ 0 → g .steps + length (added has x) ≤ g .limit
+unfolding isAgain placeNumber
+steps-room g (Step e) marks has h q = at (has e) (isFull g) refl q
+  where
+    at : (a b : Bool) → isFull g ≡ b → _≡_ {A = ℕ} (cond a 0 (cond b 9 0)) 0 → g .steps + length (cond a [] (e ∷ [])) ≤ g .limit
+    at true b z y = omega arith
+    at false true z y = absurd (omega arith)
+    at false false z y = let n = eqb-false (g .steps) (g .limit) z in omega arith
+steps-room g (Terminal u) marks has h q = omega arith
+steps-room g (Close u) marks has h q = omega arith
 
 -- What holds after each call of a run: the accepted history is legal, the tables fit for it, and sizes are as they were.
 pub record Sound (g₀ : Graph) (t₀ : Tables) (h : History) (g : Graph) (t : Tables) : Type 0 where
@@ -51,6 +62,12 @@ pub record Sound (g₀ : Graph) (t₀ : Tables) (h : History) (g : Graph) (t : T
   pub limit : g .limit ≡ g₀ .limit
   pub sizes : lengths t ≡ lengths t₀
   pub room : g .steps ≤ g .limit
+
+-- What an update adds turns on the test alone.
+pub added-same : (x : Update) {has has′ : Edge → Bool} → ((e : Edge) → has e ≡ has′ e) → added has x ≡ added has′ x
+added-same (Step e) f = rw (f e)
+added-same (Terminal u) f = refl
+added-same (Close u) f = refl
 
 -- an update sent from a state that is not closed does not meet 6
 pub unmarked : {h : History} {g : Graph} {t : Tables} → Consistent h g t → (u : ℕ) → u < g .n → (IsClosed h u → ⊥) → hasClosed (getD (t .marks) u 0) ≡ false
@@ -66,8 +83,8 @@ module _ {g₀ : Graph} {t₀ : Tables} where
   pub may-follow : {h : History} {g : Graph} {t : Tables} → Sound g₀ t₀ h g t → (x : Update) → refusalOn g t x ≡ none → MayFollow h x
   may-follow {h} {g} {t} s x e =
       let p = accepted-passes g t x e in
-      let q = sendable-of g (t .marks) x (s .room) (p .1) in
-      at x (in-range (g .n) (g .limit) (g .steps) x (q .0)) (q .1)
+      let q = passed-of g (t .marks) x (p .1) in
+      at x (source-below (g .n) x (q .0)) (q .2)
     where
       unclosed : (u : ℕ) → u < g .n → hasClosed (getD (t .marks) u 0) ≡ false → IsClosed h u → ⊥
       unclosed u r q = refuted (decides-closed-mark (s .fits) u r) q
@@ -77,17 +94,23 @@ module _ {g₀ : Graph} {t₀ : Tables} where
       at (Terminal u) r q = unclosed u r (q refl)
       at (Close u) r q = tt
 
+  -- the step list with what is accepted is within the limit
+  pub listed-room : {h : History} {g : Graph} {t : Tables} → Sound g₀ t₀ h g t → (x : Update) → cond (isAgain x (t .marks) (listedOn g t)) 0 (placeNumber (isFull g) x) ≡ 0 → length (listed (x ∷ h)) ≤ g .limit
+  unfolding listed
+  listed-room {h} {g} {t} s x q =
+      let r = steps-room g x (t .marks) (listedOn g t) (s .room) q in
+      rw (length-append, ← added-same x (listed-same (s .fits)), ← s .fits .steps) r
+
   pub sound-accepted : {h : History} {g g′ : Graph} {t t′ : Tables} {x : Update} {a : Answer} → Sound g₀ t₀ h g t → refusalOn g t x ≡ none → AcceptedUpdate g x t g′ t′ a → Sound g₀ t₀ (x ∷ h) g′ t′
   sound-accepted {h} {g} {g′} {t} {t′} {x} s e a =
       let q = accepted-passes g t x e in
-      let d = sendable-of g (t .marks) x (s .room) (q .1) in
       record {
         legal = (s .legal, may-follow s x e);
         fits = a .fits h (s .legal) (s .fits) .0;
         states = ap (λ (e : Graph). e .n) (a .graph) ∙ s .states;
         limit = ap (λ (e : Graph). e .limit) (a .graph) ∙ s .limit;
         sizes = lengths-kept (a .kept) ∙ s .sizes;
-        room = rw (a .graph) (steps-room g x (d .0) (s .room));
+        room = rw (a .graph) (steps-room g x (t .marks) (listedOn g t) (s .room) (q .2));
       }
 
   pub sound : {xs : List Update} {h : History} {g : Graph} {t : Tables} → Fresh g₀ t₀ → Run g₀ t₀ xs h g t → Sound g₀ t₀ h g t
@@ -95,25 +118,29 @@ module _ {g₀ : Graph} {t₀ : Tables} where
   sound f (accepted r c x k p) = let a = was-accepted p in sound-accepted (sound-checked (sound f r) c) (a .0) (a .1)
   sound f (refused r c x k p) = let q = was-refused p in rw (q .1, q .2) (sound-checked (sound f r) c)
 
-  -- Where the tests 1 to 4 find nothing, an update in range that may follow and, for a step, has a free place and a key of 0 to 31 is accepted.
-  pub not-refused : {h : History} {g : Graph} {t : Tables} → Sound g₀ t₀ h g t → 0 < g .n → g .n ≤ maxStates → 0 < g .limit → g .limit ≤ maxSteps → longEnough g t ≡ true → (x : Update) → Sendable (g .n) (g .limit) (g .steps) x → MayFollow h x → refusalOn g t x ≡ none
+  -- Where the tests 1 to 4 find nothing, an update in range that may follow and, for a step, has a key of 0 to 31 and a free place or an equal step listed is accepted.
+  pub not-refused : {h : History} {g : Graph} {t : Tables} → Sound g₀ t₀ h g t → 0 < g .n → g .n ≤ maxStates → 0 < g .limit → g .limit ≤ maxSteps → longEnough g t ≡ true → (x : Update) → Sendable (g .n) (g .limit) (g .steps) (isIn (listed h)) x → MayFollow h x → refusalOn g t x ≡ none
   unfolding refusal
   not-refused {h} {g} {t} s a b c d e x r o =
-      first-none (lent (given g (longEnough g t) (isFull g) (t .marks)))
-      (sent (given g (longEnough g t) (isFull g) (t .marks)) x)
-      (none-applies (lent (given g (longEnough g t) (isFull g) (t .marks))) (
+      first-none (lent (given g (longEnough g t) (isFull g) (listedOn g t) (t .marks)))
+      (sent (given g (longEnough g t) (isFull g) (listedOn g t) (t .marks)) x)
+      (none-applies (lent (given g (longEnough g t) (isFull g) (listedOn g t) (t .marks))) (
         rw (ne-eqb (g .n) 0 (λ z. absurd (omega arith))) (le-ltb maxStates (g .n) b),
         (
           rw (ne-eqb (g .limit) 0 (λ z. absurd (omega arith))) (le-ltb maxSteps (g .limit) d),
           (rw e refl, (le-ltb (g .limit) (g .steps) (s .room), tt)),
         ),
       )) ∙
-      none-applies (sent (given g (longEnough g t) (isFull g) (t .marks)) x) (sents x r o)
+      none-applies (sent (given g (longEnough g t) (isFull g) (listedOn g t) (t .marks)) x) (sents x r o)
     where
-      sents : (y : Update) → Sendable (g .n) (g .limit) (g .steps) y → MayFollow h y → NoneApply (sent (given g (longEnough g t) (isFull g) (t .marks)) y)
+      placed : (d : Edge) → (g .steps < g .limit) ⊎ (isIn (listed h) d ≡ true) → isFull g && not (listedOn g t d) ≡ false
+      placed d (inl q) = rw (ne-eqb (g .steps) (g .limit) (λ z. absurd (omega arith)))
+      placed d (inr q) = rw (listed-same (s .fits) d, q) (and-false (isFull g))
+
+      sents : (y : Update) → Sendable (g .n) (g .limit) (g .steps) (isIn (listed h)) y → MayFollow h y → NoneApply (sent (given g (longEnough g t) (isFull g) (listedOn g t) (t .marks)) y)
       sents (Step d) q n = (
         rw (lt-leb (g .n) (d .from) (q .0)) (lt-leb (g .n) (d .to) (q .1)),
-        (le-ltb maxKey (d .key) (q .3), (unmarked (s .fits) (d .from) (q .0) n, (ne-eqb (g .steps) (g .limit) (λ z. absurd (omega (arith, q .2))), tt))),
+        (le-ltb maxKey (d .key) (q .2), (unmarked (s .fits) (d .from) (q .0) n, (placed d (q .3), tt))),
       )
       sents (Terminal u) q n = (lt-leb (g .n) u q, (unmarked (s .fits) u q n, tt))
       sents (Close u) q n = (lt-leb (g .n) u q, tt)

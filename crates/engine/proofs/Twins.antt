@@ -1,18 +1,22 @@
 -- Two runs of equal size, the one sent what the other accepted less a choice of updates from live states: they agree.
 -- Assumes nothing.
 use mathlib.Core.Path.{_≡_, refl, sym, _∙_, ap, subst}
-use mathlib.Core.Bool.{true}
+use mathlib.Core.Logic.{_⊎_, inl, inr}
+use mathlib.Core.Bool.{Bool, true, false}
 use mathlib.Core.List.{List, _∷_}
 use mathlib.Core.Option.{Option, some, none}
-use Prim.Native.Nat.{ℕ, _<_, _≤_}
+use Prim.Native.Nat.{ℕ, _+_, _<_, _≤_}
 use native.Mathlib.Omega.{arith}
-use lib.ListN.{length, getD, length-append}
+use lib.ListN.{length, getD}
 use Rattle.gid.specs.declared.Update.{Update}
 use Rattle.gid.specs.declared.Update.the-variants.{Step, Terminal, Close}
-use Rattle.gid.specs.Histories.{History, IsNamed, added, listed}
+use Rattle.gid.specs.Histories.{History, IsNamed, isIn, listed}
+use Rattle.gid.specs.Refusals.{maxKey}
 use Rattle.gid.specs.Statuses.{status}
 use Rattle.gid.specs.News.{news}
 use Rattle.gid.specs.Pruning.{Pruned, start, keep, leave}
+use Rattle.gid.proofs.Paths.{Inside, within-both}
+use Rattle.gid.proofs.Listing.{newest-listed, listed-within}
 use Rattle.gid.proofs.Following.{follows-within}
 use Rattle.gid.proofs.Pruning.{keeps, pruning}
 use Rattle.tables.specs.declared.Graph.{Graph}
@@ -23,10 +27,11 @@ use Rattle.tables.specs.Fitting.{Fresh}
 use Rattle.tables.proofs.Refusing.{lent-leaves, accepted-passes}
 use Rattle.engine.specs.declared.Answer.the-variants.{Accepted}
 use Rattle.engine.specs.Answers.{newsOf}
+use Rattle.engine.specs.Preparing.{InRange, KeyBelow}
 use Rattle.engine.specs.Promise.{Promise, Sendable}
 use Rattle.engine.specs.Runs.{Run, begun, accepted, refused, Agree}
-use Rattle.engine.proofs.Promising.{sendable-of}
-use Rattle.engine.proofs.Running.{was-accepted, was-refused, Sound, sound, sound-checked, may-follow, not-refused}
+use Rattle.engine.proofs.Promising.{passed-of}
+use Rattle.engine.proofs.Running.{was-accepted, was-refused, Sound, sound, sound-checked, listed-room, may-follow, not-refused}
 
 both : {o : Option ℕ} {k : ℕ} → o ≡ none → o ≡ some k → ⊥
 both e d = let b : _≡_ {A = ℕ} 0 1 = cc in omega arith
@@ -34,18 +39,15 @@ both e d = let b : _≡_ {A = ℕ} 0 1 = cc in omega arith
 sound-as : {g₀ g : Graph} {t₀ t : Tables} {h f : History} → h ≡ f → Sound g₀ t₀ h g t → Sound g₀ t₀ f g t
 sound-as {g₀} {g} {t₀} {t} e s = subst (λ (h : History). Sound g₀ t₀ h g t) e s
 
--- a pruned history has no more steps
-fewer : {f p : History} → Pruned f p → length (listed p) ≤ length (listed f)
-unfolding listed
-fewer start = omega arith
-fewer (keep {f = f} {p = p} x c) = let i = fewer c in rw (length-append (listed p) (added x), length-append (listed f) (added x)) (omega arith)
-fewer (leave {f = f} x l c) = let i = fewer c in rw (length-append (listed f) (added x)) (omega arith)
-
--- an update that is sendable with more steps listed is so with fewer
-sendable-fewer : (n limit : ℕ) {m m′ : ℕ} → m′ ≤ m → (x : Update) → Sendable n limit m x → Sendable n limit m′ x
-sendable-fewer n limit h (Step e) s = (s .0, s .1, omega (arith, s .2), s .3)
-sendable-fewer n limit h (Terminal u) s = s
-sendable-fewer n limit h (Close u) s = s
+-- what the full run accepts can be sent in the pruned one: a step is listed there, or finds a place, since with it the pruned list is no longer than the full one
+sendable-pruned : (n limit m′ : ℕ) {f p : History} → Inside p f → m′ ≡ length (listed p) → (x : Update) → InRange n x → KeyBelow (maxKey + 1) x → length (listed (x ∷ f)) ≤ limit → Sendable n limit m′ (isIn (listed p)) x
+sendable-pruned n limit m′ {f} {p} i z (Step e) r k l = (r .0, r .1, omega arith, at (isIn (listed p) e) refl)
+  where
+    at : (b : Bool) → isIn (listed p) e ≡ b → (m′ < limit) ⊎ (isIn (listed p) e ≡ true)
+    at true q = inr q
+    at false q = inl (let w = listed-within (Step e ∷ p) (Step e ∷ f) (within-both (Step e) i) in let y = newest-listed p e q .0 in omega arith)
+sendable-pruned n limit m′ i z (Terminal u) r k l = r
+sendable-pruned n limit m′ i z (Close u) r k l = r
 
 module _ {g₀ g₁ : Graph} {t₀ t₁ : Tables} (fresh₀ : Fresh g₀ t₀) (fresh₁ : Fresh g₁ t₁) (states : g₁ .n ≡ g₀ .n) (limits : g₁ .limit ≡ g₀ .limit) (sizes : lengths t₁ ≡ lengths t₀) where
   -- what the full run accepts, the pruned run accepts
@@ -53,13 +55,13 @@ module _ {g₀ g₁ : Graph} {t₀ t₁ : Tables} (fresh₀ : Fresh g₀ t₀) (
   accepts-too {f} {p} {g} {g′} {t} {t′} c s s′ x e =
       let q = accepted-passes g t x e in
       let l = lent-leaves g (longEnough g t) (q .0) in
-      let d = sendable-of g (t .marks) x (s .room) (q .1) in
+      let d = passed-of g (t .marks) x (q .1) in
       let n : g′ .n ≡ g .n = s′ .states ∙ states ∙ sym (s .states) in
       let m : g′ .limit ≡ g .limit = s′ .limit ∙ limits ∙ sym (s .limit) in
       let z : lengths t′ ≡ lengths t = s′ .sizes ∙ sizes ∙ sym (s .sizes) in
-      let w : g′ .steps ≤ g .steps = rw (s′ .fits .steps, s .fits .steps) (fewer c) in
+      let w : length (listed (x ∷ f)) ≤ g .limit = listed-room s x (q .2) in
       not-refused s′ (rw n (l .some-states)) (rw n (l .few-states)) (rw m (l .some-limit)) (rw m (l .low-limit)) (rw (n, m) (subst (λ (y : Lengths). enough (needs (g .n) (g .n) (g .limit) y) ≡ true) (sym z) (l .longs))) x
-      (rw (n, m) (sendable-fewer (g .n) (g .limit) w x (d .0)))
+      (rw (n, m) (sendable-pruned (g .n) (g .limit) (g′ .steps) (keeps c .part) (s′ .fits .steps) x (d .0) (d .1) w))
       (follows-within (keeps c .part) x (may-follow s x e))
 
   -- one accepted update has the news of the definition, and the statuses after it

@@ -2,12 +2,14 @@
 -- Assumes nothing.
 use mathlib.Core.Bool.{cond}
 use mathlib.Core.List.{List}
-use Prim.Native.Nat.{ℕ, _<_}
+use Prim.Native.Nat.{ℕ, _<_, _≤_}
 use lib.Dec.{eqb}
 use lib.ListN.{length, getD, set}
 use Rattle.gid.specs.declared.Update.{Update}
 use Rattle.gid.specs.declared.Update.the-variants.{Step, Terminal, Close}
 use Rattle.gid.specs.Statuses.{statusUnseen, statusOpen}
+use Rattle.gid.specs.Refusals.{maxKey}
+use Rattle.engine.specs.Effects.{setMarks}
 
 -- A state that is named: unseen becomes open.
 abbrev pub namedByte : ℕ → ℕ
@@ -39,3 +41,20 @@ abbrev pub Free : ℕ → Update → List ℕ → Type 0
 Free m (Step e) l = m < length l
 Free m (Terminal u) l = Unit {0}
 Free m (Close u) l = Unit {0}
+
+-- The update can be stored: its states are below n, and a step has a free place and a key of 0 to 31.
+abbrev pub Storable : ℕ → ℕ → ℕ → Update → Type 0
+Storable n limit m (Step e) = (e .from < n) × (e .to < n) × (m < limit) × (e .key ≤ maxKey)
+Storable n limit m (Terminal u) = u < n
+Storable n limit m (Close u) = u < n
+
+-- What an update that comes again does: a step names its states, a close nothing.
+unfoldable pub statusAgain : Update → List ℕ → List ℕ
+statusAgain (Step e) status = namesAfter (Step e) status
+statusAgain (Terminal u) status = status
+statusAgain (Close u) status = status
+
+unfoldable pub marksAgain : Update → List ℕ → List ℕ
+marksAgain (Step e) marks = setMarks (Step e) marks
+marksAgain (Terminal u) marks = marks
+marksAgain (Close u) marks = marks

@@ -1,20 +1,22 @@
 -- The promise of an update, on all inputs: state values, tables and the answer, before and after.
 -- Assumes nothing.
 use mathlib.Core.Path.{_≡_}
-use mathlib.Core.Bool.{true}
+use mathlib.Core.Logic.{_⊎_}
+use mathlib.Core.Bool.{Bool, true}
 use mathlib.Core.List.{List, [], _∷_, List·Memᴰ}
 use mathlib.Core.Option.{some, none}
 use Prim.Native.Nat.{ℕ, _<_, _≤_}
+use Rattle.gid.specs.declared.Edge.{Edge}
 use Rattle.gid.specs.declared.Update.{Update}
 use Rattle.gid.specs.declared.Update.the-variants.{Step, Terminal, Close}
-use Rattle.gid.specs.Histories.{History, Legal}
+use Rattle.gid.specs.Histories.{History, Legal, repeats}
 use Rattle.gid.specs.News.{news, Rising}
 use Rattle.gid.specs.Refusals.{maxKey}
 use Rattle.tables.specs.declared.Graph.{Graph}
 use Rattle.tables.specs.Tables.{Tables, nodesOf}
 use Rattle.tables.specs.Marks.{closesAgain}
 use Rattle.tables.specs.Keeping.{Kept, KeptTables}
-use Rattle.tables.specs.Listing.{fromAfter, toAfter, keyAfter, graphAfter}
+use Rattle.tables.specs.Listing.{listedOn, addedOn, fromAfter, toAfter, keyAfter, graphAfter}
 use Rattle.tables.specs.Refused.{refusalOn}
 use Rattle.tables.specs.Fitting.{Consistent}
 use Rattle.engine.specs.declared.Answer.{Answer}
@@ -30,17 +32,19 @@ pub record NewsKept (n : ℕ) (before after : List ℕ) (answer : Answer) : Type
 
 -- An accepted update x.
 pub record AcceptedUpdate (g : Graph) (x : Update) (t : Tables) (g′ : Graph) (t′ : Tables) (answer : Answer) : Type 0 where
-  -- On any tables: the state value, the marks and the step list by equations;
-  pub graph : g′ ≡ graphAfter g x
+  -- On any tables: the state value, the marks and the step list by equations. "A step equal in from, to and key to a listed one" adds nothing (document 02, #103);
+  pub graph : g′ ≡ graphAfter g (addedOn g t x)
   pub marks : t′ .marks ≡ marksAfter x (t .marks)
-  pub from : t′ .from ≡ fromAfter (g .steps) x (t .from)
-  pub to : t′ .to ≡ toAfter (g .steps) x (t .to)
-  pub key : t′ .key ≡ keyAfter (g .steps) x (t .key)
+  pub from : t′ .from ≡ fromAfter (g .steps) (addedOn g t x) (t .from)
+  pub to : t′ .to ≡ toAfter (g .steps) (addedOn g t x) (t .to)
+  pub key : t′ .key ≡ keyAfter (g .steps) (addedOn g t x) (t .key)
   -- every table below its needed length alone, and the news. What statuses, successors and work tables hold there is free on tables that do not fit.
   pub kept : KeptTables (g .n) (nodesOf g) (g .limit) t t′
   pub named : NewsKept (g .n) (t .news) (t′ .news) answer
   -- "A close of a closed state": "no news and no change" (document 02, #102).
   pub again : closesAgain x (t .marks) ≡ true → (newsCount answer ≡ 0) × (g′ ≡ g) × (t′ ≡ t)
+  -- A repeated step: no news, and the state value as before; on tables that fit, nothing changes at all.
+  pub repeated : repeats (listedOn g t) x ≡ true → (newsCount answer ≡ 0) × (g′ ≡ g) × ((h : History) → Legal h → Consistent h g t → t′ ≡ t)
   -- On tables that fit for a legal history h: they fit for h followed by x, and the news is the definition's.
   pub fits : (h : History) → Legal h → Consistent h g t → Consistent (x ∷ h) g′ t′ × (newsOf answer (t′ .news) ≡ news (g .n) h x)
 
@@ -50,8 +54,8 @@ pub record Promise (g : Graph) (x : Update) (t : Tables) (g′ : Graph) (answer 
   pub refuses : (k : ℕ) → refusalOn g t x ≡ some k → (newsOf answer (t′ .news) ≡ []) × (g′ ≡ g) × (t′ ≡ t)
   pub accepts : refusalOn g t x ≡ none → AcceptedUpdate g x t g′ t′ answer
 
--- The update's states are below n, and a step has a free place and a key of 0 to 31.
-abbrev pub Sendable : ℕ → ℕ → ℕ → Update → Type 0
-Sendable n limit m (Step e) = (e .from < n) × (e .to < n) × (m < limit) × (e .key ≤ maxKey)
-Sendable n limit m (Terminal u) = u < n
-Sendable n limit m (Close u) = u < n
+-- The update's states are below n, and a step has a key of 0 to 31 and a free place behind the m listed steps, or is one of these.
+abbrev pub Sendable : ℕ → ℕ → ℕ → (Edge → Bool) → Update → Type 0
+Sendable n limit m listed (Step e) = (e .from < n) × (e .to < n) × (e .key ≤ maxKey) × ((m < limit) ⊎ (listed e ≡ true))
+Sendable n limit m listed (Terminal u) = u < n
+Sendable n limit m listed (Close u) = u < n

@@ -1,4 +1,4 @@
-// What an accepted update does, where it changes something: it is listed and marked, and then judged.
+// Whether an update comes again, and what it does then; and what a new one does: it is listed and marked, and then judged.
 ghost use mathlib.Core.Path.{_≡_};
 ghost use Prim.Native.Nat.{_≤_, _<_};
 ghost use lib.ListN.{length};
@@ -6,10 +6,12 @@ ghost use Rattle.gid.specs.declared.Update.{Update};
 ghost use Rattle.gid.specs.Refusals.{maxStates};
 ghost use Rattle.tables.specs.Tables.{visitedLength};
 ghost use Rattle.tables.specs.Marks.{withNamed};
+ghost use Rattle.tables.specs.Listing.{isListedIn};
+ghost use Rattle.tables.specs.Refused.{isAgain};
 ghost use Rattle.search.specs.Spreading.{chains, into, outOf, Walkable};
 ghost use Rattle.search.specs.Escaping.{toward};
 ghost use Rattle.engine.specs.Effects.{markAt, setMarks};
-ghost use Rattle.engine.specs.Preparing.{nameAt, namesAfter, InRange, KeyBelow, Free};
+ghost use Rattle.engine.specs.Preparing.{nameAt, namesAfter, statusAgain, marksAgain, InRange, KeyBelow, Free};
 ghost use Rattle.engine.specs.Judging.{unlessLive, quickened, endangered, Judged};
 ghost use Rattle.engine.specs.Done.{Listed};
 use adjacency::push;
@@ -19,13 +21,49 @@ use search::near::near_escape;
 use search::revive::revive;
 use search::spread::begin;
 use search::sweep::sweep;
+use steplist::is_listed;
 use tables::LIVE;
 use tables::OPEN;
 use tables::UNKNOWN;
 use tables::UNSEEN;
+use tables::closes_again;
 use tables::with_closed;
 use tables::with_named;
 use tables::with_terminal;
+
+// Whether an update that the tests 5, 14 and 6 let pass comes again: a close of a closed state, or a step that is listed.
+pub fn comes_again(
+    update: Update,
+    steps: usize,
+    marks: &[u8],
+    from: &[u16],
+    to: &[u16],
+    key: &[u8],
+    out_head: &[u16],
+    out_next: &[u16],
+) -> bool
+    requires { ⌜ InRange 65536 update × InRange (length (now marks)) update × InRange (length (now «out_head»)) update ⌝ }
+    requires { ⌜ (steps ≤ length (now from)) × (steps ≤ length (now to)) × (steps ≤ length (now key)) × (steps ≤ length (now «out_next»)) × (steps < 65536) ⌝ }
+    ensures { λ r. ⌜ r ≡ isAgain update (now (marks .entry)) (isListedIn steps (now (from .entry)) (now (to .entry)) (now (key .entry))) ⌝ }
+{
+    match update {
+        Update::Step { edge } => is_listed(edge, steps, from, to, key, out_head, out_next),
+        Update::Terminal { state: _ } => false,
+        Update::Close { state: _ } => closes_again(update, marks),
+    }
+}
+
+// Names the states of a step that comes again. A close leaves all as it is.
+pub fn name_again(update: Update, status: &mut [u8], marks: &mut [u8])
+    requires { ⌜ InRange (length (now status)) update × InRange (length (now marks)) update ⌝ }
+    ensures { λ _. ⌜ (now (status .exit) ≡ statusAgain update (now (status .entry))) × (now (marks .exit) ≡ marksAgain update (now (marks .entry))) ⌝ }
+{
+    let Update::Step { edge } = update else {
+        return;
+    };
+    name(status, marks, edge.from);
+    name(status, marks, edge.to);
+}
 
 // Lists a step at index p, and puts it in front of the steps out of its source and into its target.
 pub fn list(

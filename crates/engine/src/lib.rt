@@ -12,7 +12,7 @@ mod accept;
 use gid::Update;
 use tables::Graph;
 use tables::Lengths;
-use tables::closes_again;
+use tables::place_number;
 
 // What an update answers: accepted, with the number of its news, or refused, with document 01's number.
 pub enum Answer {
@@ -32,7 +32,8 @@ pub struct Updated {
 }
 
 impl Engine {
-    // Makes one update on the tables. Refused, or a close of a closed state, it changes nothing and returns the state value as it came.
+    // Makes one update on the tables. Refused, or a close of a closed state, it changes nothing and returns the state value as it came; so
+    // does a repeated step, but for naming its states.
     pub fn update(
         self,
         update: Update,
@@ -78,17 +79,25 @@ impl Engine {
                 answer: Answer::Refused(lent),
             };
         }
-        let sent = graph.sent(graph.is_full(), update, marks);
+        let sent = graph.sent(update, marks);
         if sent != 0 {
             return Updated {
                 engine: self,
                 answer: Answer::Refused(sent),
             };
         }
-        if closes_again(update, marks) {
+        if accept::comes_again(update, steps, marks, from, to, key, out_head, out_next) {
+            accept::name_again(update, status, marks);
             return Updated {
                 engine: self,
                 answer: Answer::Accepted(0),
+            };
+        }
+        let full = place_number(graph.is_full(), update);
+        if full != 0 {
+            return Updated {
+                engine: self,
+                answer: Answer::Refused(full),
             };
         }
         accept::list(

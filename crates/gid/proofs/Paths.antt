@@ -15,6 +15,9 @@ use Rattle.gid.specs.Verdicts.{Reaches, here, along}
 abbrev pub Inside : History → History → Type 0
 Inside h g = (x : Update) → Has h x → Has g x
 
+pub within-both : {h g : History} (x : Update) → Inside h g → Inside (x ∷ h) (x ∷ g)
+within-both x i y m = ⊎-elim (λ e. List·Memᴰ·head e) (λ q. List·Memᴰ·tail (i y q)) (List·Memᴰ·cases-cons m)
+
 -- Steps, by whatever key: those of a part of a history, of none, of the newest update, and of that or an older one.
 pub step-within : {h g : History} → Inside h g → {u v : ℕ} → IsStep h u v → IsStep g u v
 step-within i m = (m .0, i _ (m .1))

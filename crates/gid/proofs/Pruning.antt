@@ -15,7 +15,7 @@ use Rattle.gid.specs.Statuses.{isLive, isDead, isClosed, isNamed, status
 use Rattle.gid.specs.News.{settles, news}
 use Rattle.gid.specs.Pruning.{Pruned, start, keep, leave, Agrees}
 use Rattle.gid.proofs.Decide.{decided, refuted, same-test, decides-iff}
-use Rattle.gid.proofs.Paths.{Inside, within-newer, step-within}
+use Rattle.gid.proofs.Paths.{Inside, within-newer, within-both, step-within}
 use Rattle.gid.proofs.Following.{follows-within}
 use Rattle.gid.proofs.Tests.{decides-live, decides-dead, decides-closed, decides-named}
 use Rattle.gid.proofs.Systems.{live-carried, dead-pruned, dead-full}
@@ -63,7 +63,7 @@ live-after x k =
 keeps-keep : {f p : History} (x : Update) → Keeps f p → Keeps (x ∷ f) (x ∷ p)
 keeps-keep {f} {p} x k =
     record {
-      part = λ y m. ⊎-elim (λ e. List·Memᴰ·head e) (λ m′. List·Memᴰ·tail (k .part y m′)) (List·Memᴰ·cases-cons m);
+      part = within-both x (k .part);
       kept = λ y m n. ⊎-elim (λ e. List·Memᴰ·head e) (λ m′. List·Memᴰ·tail (k .kept y m′ (λ q. n (live-within (within-newer x) q)))) (List·Memᴰ·cases-cons m);
       live = λ s q. live-after x k q;
     }

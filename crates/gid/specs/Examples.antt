@@ -1,4 +1,4 @@
--- The marked examples of document 01, a close that comes again and keys (document 02, #102 and #101), as one list of cases. proofs/Examples.antt proves them of the definitions.
+-- The marked examples of document 01, a close that comes again, keys and repeated steps (document 02, #102, #101 and #103), as one list of cases. proofs/Examples.antt proves them of the definitions.
 -- Assumes nothing.
 use mathlib.Core.List.{List, [], _∷_}
 use Prim.Native.Nat.{ℕ}
@@ -64,8 +64,9 @@ cases =
     at 4 (Close 1 ∷ step 0 1 ∷ []) (Close 0) (accepted (0 ∷ [])) (4 ∷ 4 ∷ 0 ∷ []) ∷
     -- 10. C 0, E 0 5: refused 5, not 6.
     at 4 (Close 0 ∷ []) (step 0 5) (refused 5) (4 ∷ 0 ∷ 0 ∷ []) ∷
-    -- 11. Limit 1: E 0 1, then E 0 1 again: refused 9. T 0 after it is accepted.
-    at 1 (step 0 1 ∷ []) (step 0 1) (refused 9) (1 ∷ 1 ∷ 0 ∷ []) ∷
+    -- 11. Limit 1: E 0 1, then E 0 1 again: "Case 11's repeat is accepted; a different step there gets 9" (document 02, #103). T 0 after it is accepted.
+    at 1 (step 0 1 ∷ []) (step 0 1) (accepted []) (1 ∷ 1 ∷ 0 ∷ []) ∷
+    at 1 (step 0 1 ∷ step 0 1 ∷ []) (step 1 0) (refused 9) (1 ∷ 1 ∷ 0 ∷ []) ∷
     at 1 (step 0 1 ∷ step 0 1 ∷ []) (Terminal 0) (accepted (0 ∷ [])) (3 ∷ 1 ∷ 0 ∷ []) ∷
     -- 12. T 0, E 0 1, E 1 2, C 1, C 2, and the same without E 0 1: last news is 1 and 2, dead, in both.
     at 4 (Terminal 0 ∷ step 0 1 ∷ step 1 2 ∷ Close 1 ∷ []) (Close 2) (accepted (1 ∷ 2 ∷ [])) (3 ∷ 4 ∷ 4 ∷ []) ∷
@@ -81,4 +82,8 @@ cases =
     at 4 (Terminal 1 ∷ []) (by 31 0 1) (accepted (0 ∷ [])) (3 ∷ 3 ∷ 0 ∷ []) ∷
     -- Two steps that differ only in key are two steps: with limit 1 the second finds no place.
     at 1 (by 3 0 1 ∷ []) (by 4 0 1) (refused 9) (1 ∷ 1 ∷ 0 ∷ []) ∷
-    at 2 (by 3 0 1 ∷ by 4 0 1 ∷ []) (by 5 0 1) (refused 9) (1 ∷ 1 ∷ 0 ∷ []) ∷ []
+    at 2 (by 3 0 1 ∷ by 4 0 1 ∷ []) (by 5 0 1) (refused 9) (1 ∷ 1 ∷ 0 ∷ []) ∷
+    -- A repeated step, between live states too: accepted, no news, and no place taken, so that another step finds one. From a closed source it gets 6.
+    at 2 (Terminal 1 ∷ by 3 0 1 ∷ by 3 0 1 ∷ []) (by 3 0 1) (accepted []) (3 ∷ 3 ∷ 0 ∷ []) ∷
+    at 2 (by 3 0 1 ∷ by 3 0 1 ∷ by 3 0 1 ∷ []) (by 4 0 1) (accepted []) (1 ∷ 1 ∷ 0 ∷ []) ∷
+    at 4 (by 3 0 1 ∷ Close 0 ∷ []) (by 3 0 1) (refused 6) (2 ∷ 1 ∷ 0 ∷ []) ∷ []

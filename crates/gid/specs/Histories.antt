@@ -1,8 +1,10 @@
 -- Histories: the updates that were accepted, and which of them are legal. Document 000, section 2.1, calls a legal history a valid GID, and lets a close come again.
 -- Assumes nothing.
 use mathlib.Core.Path.{_≡_}
+use mathlib.Core.Bool.{Bool, false, cond, _&&_, _||_}
 use mathlib.Core.List.{List, [], _∷_, _++_, List·Memᴰ}
 use Prim.Native.Nat.{ℕ}
+use lib.Dec.{eqb}
 use Rattle.gid.specs.declared.Edge.{Edge}
 use Rattle.gid.specs.declared.Update.{Update}
 use Rattle.gid.specs.declared.Update.the-variants.{Step, Terminal, Close}
@@ -50,13 +52,33 @@ Legal (x ∷ h) = Legal h × MayFollow h x
 abbrev pub Continues : History → History → Type 0
 Continues h g = (k : History) × (g ≡ k ++ h)
 
--- What an update adds to the step list.
-abbrev pub added : Update → List Edge
-added (Step e) = e ∷ []
-added (Terminal u) = []
-added (Close u) = []
+-- Whether two steps are "equal in from, to and key" (document 02, #103), and whether a list has a step equal to e.
+abbrev pub isSame : Edge → Edge → Bool
+isSame d e = eqb (d .from) (e .from) && (eqb (d .to) (e .to) && eqb (d .key) (e .key))
 
--- The step list of a history, "in order of acceptance".
+unfoldable pub isIn : List Edge → Edge → Bool
+isIn [] e = false
+isIn (d ∷ l) e = isSame d e || isIn l e
+
+-- What an update adds to the step list, by a test of which steps are listed: "a step equal in from, to and key to a listed one is accepted without taking a place" (#103).
+abbrev pub added : (Edge → Bool) → Update → List Edge
+added has (Step e) = cond (has e) [] (e ∷ [])
+added has (Terminal u) = []
+added has (Close u) = []
+
+-- The update is a step that is listed already, by such a test.
+abbrev pub repeats : (Edge → Bool) → Update → Bool
+repeats has (Step e) = has e
+repeats has (Terminal u) = false
+repeats has (Close u) = false
+
+-- The step that an update sends, if it is one: what it adds where no equal step is listed.
+abbrev pub stepOf : Update → List Edge
+stepOf (Step e) = e ∷ []
+stepOf (Terminal u) = []
+stepOf (Close u) = []
+
+-- The step list of a history, "in order of acceptance": each of its steps once, at the place that it took first.
 unfoldable pub listed : History → List Edge
 listed [] = []
-listed (x ∷ h) = listed h ++ added x
+listed (x ∷ h) = listed h ++ added (isIn (listed h)) x

@@ -7,7 +7,7 @@ use Prim.Native.Nat.{ℕ}
 use lib.Dec.{eqb}
 use lib.ListN.{length}
 use Rattle.gid.specs.declared.Update.{Update}
-use Rattle.gid.specs.Histories.{History, listed}
+use Rattle.gid.specs.Histories.{History, isIn, listed}
 use Rattle.gid.specs.Statuses.{isClosed}
 use Rattle.gid.specs.News.{news}
 use Rattle.gid.specs.Refusals.{Given, refusal}
@@ -24,7 +24,7 @@ byNumber (some k) a = refused k
 
 -- What the tables say after a history, with tables that are long enough.
 unfoldable pub givenAfter : ℕ → ℕ → History → Given
-givenAfter n limit h = record { n = n; limit = limit; steps = length (listed h); long = true; full = eqb (length (listed h)) limit; closed = isClosed h }
+givenAfter n limit h = record { n = n; limit = limit; steps = length (listed h); long = true; full = eqb (length (listed h)) limit; listed = isIn (listed h); closed = isClosed h }
 
 -- The outcome of an update after a history, and the history after it.
 unfoldable pub outcome : ℕ → ℕ → History → Update → Outcome (List ℕ)

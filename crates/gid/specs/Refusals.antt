@@ -1,10 +1,11 @@
 -- The numbers 1 to 9, without 7 and 8 (document 02, #102 and #110), and 14 (#101): which updates are refused. Document 01, "Numbers by who causes them": "Tests run in rising order and the first that applies is given", but for 14, which is "tested right after 5".
 -- Assumes nothing.
-use mathlib.Core.Bool.{Bool, not, cond, _||_}
+use mathlib.Core.Bool.{Bool, not, cond, _&&_, _||_}
 use mathlib.Core.List.{List, [], _∷_, _++_}
 use mathlib.Core.Option.{Option, some, none}
 use Prim.Native.Nat.{ℕ}
 use lib.Dec.{leb, ltb, eqb}
+use Rattle.gid.specs.declared.Edge.{Edge}
 use Rattle.gid.specs.declared.Update.{Update}
 use Rattle.gid.specs.declared.Update.the-variants.{Step, Terminal, Close}
 
@@ -19,13 +20,14 @@ maxSteps = 8192
 abbrev pub maxKey : ℕ
 maxKey = 31
 
--- What a refusal turns on: the state value (n, the step limit, the number of steps), whether every table that the call is lent is long enough, whether the step list is full, and which states are marked closed.
+-- What a refusal turns on: the state value (n, the step limit, the number of steps), whether every table that the call is lent is long enough, whether the step list is full, which steps are listed, and which states are marked closed.
 pub record Given : Type 0 where
   pub n : ℕ
   pub limit : ℕ
   pub steps : ℕ
   pub long : Bool
   pub full : Bool
+  pub listed : Edge → Bool
   pub closed : ℕ → Bool
 
 -- A test with the number that it gives where it applies.
@@ -46,13 +48,13 @@ lent g =
     record { applies = not (g .long); number = 3 } ∷
     record { applies = ltb (g .limit) (g .steps); number = 4 } ∷ []
 
--- "Caused by the explorer that sends"
+-- "Caused by the explorer that sends". A step equal to a listed one takes no place, so it needs none (document 02, #103).
 abbrev pub sent : Given → Update → List Rule
 sent g (Step e) =
     record { applies = leb (g .n) (e .from) || leb (g .n) (e .to); number = 5 } ∷
     record { applies = ltb maxKey (e .key); number = 14 } ∷
     record { applies = g .closed (e .from); number = 6 } ∷
-    record { applies = g .full; number = 9 } ∷ []
+    record { applies = g .full && not (g .listed e); number = 9 } ∷ []
 sent g (Terminal u) =
     record { applies = leb (g .n) u; number = 5 } ∷
     record { applies = g .closed u; number = 6 } ∷ []

@@ -11,7 +11,8 @@ use Rattle.gid.specs.declared.Update.the-variants.{Step, Terminal, Close}
 use Rattle.gid.specs.Refusals.{Given, Rule, first, lent, sent, refusal}
 use Rattle.tables.specs.declared.Graph.{Graph}
 use Rattle.tables.specs.Tables.{Tables, longEnough}
-use Rattle.tables.specs.Refused.{isFull, given}
+use Rattle.tables.specs.Listing.{listedOn}
+use Rattle.tables.specs.Refused.{isFull, given, noneListed}
 use Rattle.engine.specs.declared.Answer.{Answer}
 use Rattle.engine.specs.declared.Answer.the-variants.{Accepted as Yes, Refused as No}
 use Rattle.engine.specs.Promise.{Promise}
@@ -49,7 +50,7 @@ answered-few : {g g′ : Graph} {x : Update} {t t′ : Tables} (line : ℕ) (a :
 unfolding refusal
 answered-few line (Yes k) p = tt
 answered-few {g} {x = x} {t = t} line (No k) p =
-    let v = given g (longEnough g t) (isFull g) (t .marks) in
+    let v = given g (longEnough g t) (isFull g) (listedOn g t) (t .marks) in
     first-few (lent v ++ sent v x) (lent-few v (sent v x) (sent-few v x)) k (sym (p .number))
 
 -- of any line,
@@ -75,5 +76,5 @@ advances-few a = stops-few (a .follows .applied) (a .stops)
 -- and of the tables.
 pub open-few : (limit : ℕ) (t : Tables) (k : ℕ) → openRefusal limit t ≡ some k → k ≤ 14
 open-few limit t k e =
-    let v = given (readerGraph limit) (longEnough (readerGraph limit) t) false [] in
+    let v = given (readerGraph limit) (longEnough (readerGraph limit) t) false noneListed [] in
     first-few (lent v) (lent-few v [] tt) k e

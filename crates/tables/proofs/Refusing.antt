@@ -1,7 +1,7 @@
 -- The laws of the refusals: rules in a row, and the number 0 for none.
 -- Assumes nothing.
 use mathlib.Core.Path.{_≡_, refl, sym, _∙_, ap}
-use mathlib.Core.Bool.{Bool, true, false, cond, _||_, true≢false}
+use mathlib.Core.Bool.{Bool, true, false, not, cond, _&&_, _||_, true≢false}
 use mathlib.Core.List.{List, [], _∷_, _++_}
 use mathlib.Core.Option.{Option, some, none}
 use Prim.Native.Nat.{ℕ, _<_, _≤_}
@@ -9,13 +9,16 @@ use native.Mathlib.Omega.{arith}
 use lib.Dec.{leb, ltb, eqb}
 use borrow.Author.Tests.{eqb-false, ltb-false, not-false}
 use lib.ListN.{length, getD}
+use Rattle.gid.specs.declared.Edge.{Edge}
 use Rattle.gid.specs.declared.Update.{Update}
 use Rattle.gid.specs.declared.Update.the-variants.{Step, Terminal, Close}
-use Rattle.gid.specs.Refusals.{Given, Rule, first, lent, sent, refusal, maxStates, maxSteps}
+use Rattle.gid.specs.Refusals.{Given, Rule, first, lent, sent, refusal, maxStates, maxSteps, maxKey}
 use Rattle.tables.specs.declared.Graph.{Graph}
 use Rattle.gid.specs.Outcomes.{refused, accepted as gives}
 use Rattle.tables.specs.Tables.{Tables, longEnough}
-use Rattle.tables.specs.Refused.{isFull, given, refusalOn, lentRules, number, lentNumber, sentNumber, statusRules, statusAnswer}
+use Rattle.tables.specs.Marks.{hasClosed}
+use Rattle.tables.specs.Listing.{listedOn}
+use Rattle.tables.specs.Refused.{isFull, given, refusalOn, noneListed, isAgain, lentRules, number, lentNumber, sentNumber, placeNumber, statusRules, statusAnswer}
 
 -- No rule of the list has the number 0.
 abbrev pub Positive : List Rule → Type 0
@@ -60,25 +63,50 @@ sent-numbered g (Step e) = (omega arith, (omega arith, (omega arith, (omega arit
 sent-numbered g (Terminal u) = (omega arith, (omega arith, tt))
 sent-numbered g (Close u) = (omega arith, tt)
 
--- The tests behind 4 do not turn on the tables' lengths.
-sent-any : (g : Graph) (long full : Bool) (marks : List ℕ) (x : Update) → first (sent (given g long full marks) x) ≡ first (sent (given g true full marks) x)
-sent-any g long full marks (Step e) = refl
-sent-any g long full marks (Terminal u) = refl
-sent-any g long full marks (Close u) = refl
+-- The tests behind 4 give the number of those where a place is free, and where there is none, 9 to a step that needs a place.
+lacks : Bool → (Edge → Bool) → Update → Bool
+lacks full listed (Step e) = full && not (listed e)
+lacks full listed (Terminal u) = false
+lacks full listed (Close u) = false
+
+orNine : Bool → Option ℕ → Option ℕ
+orNine full none = cond full (some 9) none
+orNine full (some k) = some k
+
+sent-any : (g : Graph) (long full : Bool) (listed : Edge → Bool) (marks : List ℕ) (x : Update) → first (sent (given g long full listed marks) x) ≡ orNine (lacks full listed x) (first (sent (given g true false noneListed marks) x))
+unfolding lacks orNine
+sent-any g long full listed marks (Step e) = at (leb (g .n) (e .from) || leb (g .n) (e .to)) (ltb maxKey (e .key)) (hasClosed (getD marks (e .from) 0))
+  where
+    at : (a b c : Bool) → cond a (some 5) (cond b (some 14) (cond c (some 6) (cond (full && not (listed e)) (some 9) none))) ≡ orNine (full && not (listed e)) (cond a (some 5) (cond b (some 14) (cond c (some 6) none)))
+    at true b c = refl
+    at false true c = refl
+    at false false true = refl
+    at false false false = refl
+sent-any g long full listed marks (Terminal u) = at (leb (g .n) u) (hasClosed (getD marks u 0))
+  where
+    at : (a b : Bool) → cond a (some 5) (cond b (some 6) none) ≡ orNine false (cond a (some 5) (cond b (some 6) none))
+    at true b = refl
+    at false true = refl
+    at false false = refl
+sent-any g long full listed marks (Close u) = at (leb (g .n) u)
+  where
+    at : (a : Bool) → cond a (some 5) none ≡ orNine false (cond a (some 5) none)
+    at true = refl
+    at false = refl
 
 -- The tests 1 to 4 pass where the code's number is 0, and else give it.
 pub lent-passes : (g : Graph) (long : Bool) → lentNumber g long ≡ 0 → first (lentRules g long) ≡ none
 unfolding lentNumber
-lent-passes g long e = number-none (lentRules g long) (lent-numbered (given g long false [])) e
+lent-passes g long e = number-none (lentRules g long) (lent-numbered (given g long false noneListed [])) e
 
 pub lent-refuses : (g : Graph) (long : Bool) (k : ℕ) → lentNumber g long ≡ k → (k ≡ 0 → ⊥) → first (lentRules g long) ≡ some k
 unfolding lentNumber
 lent-refuses g long k e n = number-some (first (lentRules g long)) k e n
 
--- The tests behind 4 pass where the code's number is 0.
-pub sent-passes : (g : Graph) (full : Bool) (marks : List ℕ) (x : Update) → sentNumber g full marks x ≡ 0 → first (sent (given g true full marks) x) ≡ none
+-- The tests 5, 14 and 6 pass where the code's number is 0.
+pub sent-passes : (g : Graph) (marks : List ℕ) (x : Update) → sentNumber g marks x ≡ 0 → first (sent (given g true false noneListed marks) x) ≡ none
 unfolding sentNumber
-sent-passes g full marks x e = number-none (sent (given g true full marks) x) (sent-numbered (given g true full marks) x) e
+sent-passes g marks x e = number-none (sent (given g true false noneListed marks) x) (sent-numbered (given g true false noneListed marks) x) e
 
 -- Where there is no number, no rule applies.
 abbrev pub NoneApply : List Rule → Type 0
@@ -144,31 +172,73 @@ module _ (g : Graph) (status : List ℕ) (s : ℕ) where
     unfolding statusAnswer
     status-byte t = rw (passes, t)
 
--- An update's number on the tables, from the two halves.
+abbrev nine : Bool → ℕ
+nine b = cond b 9 0
+
+lacks-place : (full : Bool) (listed : Edge → Bool) (x : Update) (marks : List ℕ) → nine (lacks full listed x) ≡ cond (isAgain x marks listed) 0 (placeNumber full x)
+unfolding lacks isAgain placeNumber
+lacks-place full listed (Step e) marks = at full (listed e)
+  where
+    at : (a b : Bool) → nine (a && not b) ≡ cond b 0 (nine a)
+    at true true = refl
+    at true false = refl
+    at false true = refl
+    at false false = refl
+lacks-place full listed (Terminal u) marks = refl
+lacks-place full listed (Close u) marks = at (hasClosed (getD marks u 0))
+  where
+    at : (b : Bool) → _≡_ {A = ℕ} 0 (cond b 0 0)
+    at true = refl
+    at false = refl
+
+-- An update's number on the tables, from the three parts of the tests.
 module _ (g : Graph) (t : Tables) (x : Update) where
   pub refused-lent : (k : ℕ) → lentNumber g (longEnough g t) ≡ k → (k ≡ 0 → ⊥) → refusalOn g t x ≡ some k
   unfolding refusal
   refused-lent k e n =
-      first-some (lent (given g (longEnough g t) (isFull g) (t .marks)))
-      (sent (given g (longEnough g t) (isFull g) (t .marks)) x) k
+      first-some (lent (given g (longEnough g t) (isFull g) (listedOn g t) (t .marks)))
+      (sent (given g (longEnough g t) (isFull g) (listedOn g t) (t .marks)) x) k
       (lent-refuses g (longEnough g t) k e n)
 
   module _ (e : lentNumber g (longEnough g t) ≡ 0) where
-    sent-half : refusalOn g t x ≡ first (sent (given g true (isFull g) (t .marks)) x)
+    sent-half : refusalOn g t x ≡ orNine (lacks (isFull g) (listedOn g t) x) (first (sent (given g true false noneListed (t .marks)) x))
     unfolding refusal
     sent-half =
-        first-none (lent (given g (longEnough g t) (isFull g) (t .marks)))
-        (sent (given g (longEnough g t) (isFull g) (t .marks)) x)
+        first-none (lent (given g (longEnough g t) (isFull g) (listedOn g t) (t .marks)))
+        (sent (given g (longEnough g t) (isFull g) (listedOn g t) (t .marks)) x)
         (lent-passes g (longEnough g t) e) ∙
-        sent-any g (longEnough g t) (isFull g) (t .marks) x
+        sent-any g (longEnough g t) (isFull g) (listedOn g t) (t .marks) x
 
-    pub refused-sent : (k : ℕ) → sentNumber g (isFull g) (t .marks) x ≡ k → (k ≡ 0 → ⊥) → refusalOn g t x ≡ some k
-    unfolding sentNumber
-    refused-sent k q n = sent-half ∙ number-some (first (sent (given g true (isFull g) (t .marks)) x)) k q n
+    pub refused-sent : (k : ℕ) → sentNumber g (t .marks) x ≡ k → (k ≡ 0 → ⊥) → refusalOn g t x ≡ some k
+    unfolding sentNumber orNine
+    refused-sent k q n = sent-half ∙ ap (orNine (lacks (isFull g) (listedOn g t) x)) (number-some (first (sent (given g true false noneListed (t .marks)) x)) k q n)
 
-    pub accepted : sentNumber g (isFull g) (t .marks) x ≡ 0 → refusalOn g t x ≡ none
-    unfolding sentNumber
-    accepted q = sent-half ∙ number-none (sent (given g true (isFull g) (t .marks)) x) (sent-numbered (given g true (isFull g) (t .marks)) x) q
+    module _ (q : sentNumber g (t .marks) x ≡ 0) where
+      passes-sent : refusalOn g t x ≡ cond (lacks (isFull g) (listedOn g t) x) (some 9) none
+      unfolding orNine
+      passes-sent = sent-half ∙ ap (orNine (lacks (isFull g) (listedOn g t) x)) (sent-passes g (t .marks) x q)
+
+      -- 9 where it needs a place and the list is full,
+      pub refused-full : (k : ℕ) → isAgain x (t .marks) (listedOn g t) ≡ false → placeNumber (isFull g) x ≡ k → (k ≡ 0 → ⊥) → refusalOn g t x ≡ some k
+      refused-full k a p n = passes-sent ∙ at (lacks (isFull g) (listedOn g t) x) (lacks-place (isFull g) (listedOn g t) x (t .marks) ∙ rw a p)
+        where
+          at : (b : Bool) → nine b ≡ k → cond b (some 9) none ≡ some k
+          at true z = ap some z
+          at false z = absurd (n (sym z))
+
+      -- and else it is accepted.
+      accepted-lacks : nine (lacks (isFull g) (listedOn g t) x) ≡ 0 → refusalOn g t x ≡ none
+      accepted-lacks z = passes-sent ∙ at (lacks (isFull g) (listedOn g t) x) z
+        where
+          at : (b : Bool) → nine b ≡ 0 → cond {A = Option ℕ} b (some 9) none ≡ none
+          at true z = absurd (omega arith)
+          at false z = refl
+
+      pub accepted-again : isAgain x (t .marks) (listedOn g t) ≡ true → refusalOn g t x ≡ none
+      accepted-again a = accepted-lacks (lacks-place (isFull g) (listedOn g t) x (t .marks) ∙ rw a)
+
+      pub accepted-new : isAgain x (t .marks) (listedOn g t) ≡ false → placeNumber (isFull g) x ≡ 0 → refusalOn g t x ≡ none
+      accepted-new a p = accepted-lacks (lacks-place (isFull g) (listedOn g t) x (t .marks) ∙ rw a p)
 
 split-none : (l m : List Rule) → first (l ++ m) ≡ none → (first l ≡ none) × (first m ≡ none)
 split-none [] m e = (refl, e)
@@ -178,9 +248,15 @@ split-none (r ∷ l) m e = at (r .applies) e (split-none l m)
     at true q i = absurd (let z : _≡_ {A = ℕ} 0 1 = cc in omega arith)
     at false q i = i q
 
--- An accepted update has passed the tests 1 to 4 and those behind them.
-pub accepted-passes : (g : Graph) (t : Tables) (x : Update) → refusalOn g t x ≡ none → (lentNumber g (longEnough g t) ≡ 0) × (sentNumber g (isFull g) (t .marks) x ≡ 0)
-unfolding refusal lentNumber sentNumber
+-- An accepted update has passed the tests 1 to 4, and 5, 14 and 6, and needs no place or has one.
+pub accepted-passes : (g : Graph) (t : Tables) (x : Update) → refusalOn g t x ≡ none → (lentNumber g (longEnough g t) ≡ 0) × (sentNumber g (t .marks) x ≡ 0) × (cond (isAgain x (t .marks) (listedOn g t)) 0 (placeNumber (isFull g) x) ≡ 0)
+unfolding refusal lentNumber sentNumber orNine
 accepted-passes g t x e =
-    let p = split-none (lent (given g (longEnough g t) (isFull g) (t .marks))) (sent (given g (longEnough g t) (isFull g) (t .marks)) x) e in
-    (ap number (p .0), ap number (sym (sent-any g (longEnough g t) (isFull g) (t .marks) x) ∙ p .1))
+    let p = split-none (lent (given g (longEnough g t) (isFull g) (listedOn g t) (t .marks))) (sent (given g (longEnough g t) (isFull g) (listedOn g t) (t .marks)) x) e in
+    let q = at (first (sent (given g true false noneListed (t .marks)) x)) (lacks (isFull g) (listedOn g t) x) (sym (sent-any g (longEnough g t) (isFull g) (listedOn g t) (t .marks) x) ∙ p .1) in
+    (ap number (p .0), ap number (q .0), sym (lacks-place (isFull g) (listedOn g t) x (t .marks)) ∙ ap nine (q .1))
+  where
+    at : (o : Option ℕ) (b : Bool) → orNine b o ≡ none → (o ≡ none) × (b ≡ false)
+    at none true z = absurd (let y : _≡_ {A = ℕ} 0 1 = cc in omega arith)
+    at none false z = (refl, refl)
+    at (some k) b z = absurd (let y : _≡_ {A = ℕ} 0 1 = cc in omega arith)

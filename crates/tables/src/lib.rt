@@ -1,12 +1,11 @@
 // What the engine is handed, and what it refuses: the state value, the caller's tables, the numbers 1 to 9 and 14, the mark bits, and the status question.
 ghost use mathlib.Core.Path.{_≡_};
-ghost use mathlib.Core.Bool.{Bool};
 ghost use mathlib.Core.List.{List};
 ghost use Prim.Native.Nat.{ℕ, _≤_, _<_};
 ghost use lib.ListN.{length};
-ghost use Rattle.tables.specs.Refused.{isFull, lentNumber, sentNumber, statusOutcome, statusAnswer};
+ghost use Rattle.tables.specs.Refused.{isFull, lentNumber, sentNumber, placeNumber, statusOutcome, statusAnswer};
 ghost use Rattle.gid.specs.Updates.{source};
-ghost use Rattle.gid.specs.Histories.{added};
+ghost use Rattle.gid.specs.Histories.{stepOf};
 ghost use Rattle.tables.specs.Tables.{nodesOf};
 ghost use Rattle.tables.specs.Marks.{closesAgain};
 ghost use Rattle.tables.specs.Listing.{graphAfter};
@@ -127,21 +126,21 @@ impl Graph {
         self.steps == self.limit
     }
 
-    // The number of the first of the tests 5, 14, 6 and 9 that applies to an update, or 0. `full`: a step finds no place.
-    pub fn sent(self, full: bool, update: Update, marks: &[u8]) -> u8
+    // The number of the first of the tests 5, 14 and 6 that applies to an update, or 0.
+    pub fn sent(self, update: Update, marks: &[u8]) -> u8
         requires { ⌜ self .n ≤ length (now marks) ⌝ }
-        ensures { λ r. ⌜ r ≡ sentNumber self full (now (marks .entry)) update ⌝ }
+        ensures { λ r. ⌜ r ≡ sentNumber self (now (marks .entry)) update ⌝ }
     {
         match update {
-            Update::Step { edge } => self.sent_step(full, edge, marks),
+            Update::Step { edge } => self.sent_step(edge, marks),
             Update::Terminal { state } => self.sent_terminal(state, marks),
             Update::Close { state } => self.sent_close(state),
         }
     }
 
-    fn sent_step(self, full: bool, edge: Edge, marks: &[u8]) -> u8
+    fn sent_step(self, edge: Edge, marks: &[u8]) -> u8
         requires { ⌜ self .n ≤ length (now marks) ⌝ }
-        ensures { λ r. ⌜ r ≡ sentNumber self full (now (marks .entry)) (Update.Step edge) ⌝ }
+        ensures { λ r. ⌜ r ≡ sentNumber self (now (marks .entry)) (Update.Step edge) ⌝ }
     {
         let from = edge.from;
         if self.n <= from {
@@ -156,16 +155,12 @@ impl Graph {
         if has_closed(marks[from]) {
             return CLOSED_SOURCE;
         }
-        if full {
-            return LIST_FULL;
-        }
         0
     }
 
-    // A terminal mark takes no place: what it gets does not turn on whether a step finds one.
     fn sent_terminal(self, state: usize, marks: &[u8]) -> u8
         requires { ⌜ self .n ≤ length (now marks) ⌝ }
-        ensures { λ r. ⌜ ((full : Bool) → r ≡ sentNumber self full (now (marks .entry)) (Update.Terminal state)) ⌝ }
+        ensures { λ r. ⌜ r ≡ sentNumber self (now (marks .entry)) (Update.Terminal state) ⌝ }
     {
         if self.n <= state {
             return OUT_OF_RANGE;
@@ -176,9 +171,9 @@ impl Graph {
         0
     }
 
-    // Nor does a close, and no mark turns one away.
+    // No mark turns a close away.
     fn sent_close(self, state: usize) -> u8
-        ensures { λ r. ⌜ ((full : Bool) (marks : List ℕ) → r ≡ sentNumber self full marks (Update.Close state)) ⌝ }
+        ensures { λ r. ⌜ ((marks : List ℕ) → r ≡ sentNumber self marks (Update.Close state)) ⌝ }
     {
         if self.n <= state {
             return OUT_OF_RANGE;
@@ -186,10 +181,10 @@ impl Graph {
         0
     }
 
-    // The state value after an accepted update.
+    // The state value after an update that is no repeat.
     pub fn after(self, update: Update) -> Graph
         requires { ⌜ self .steps < 65536 ⌝ }
-        ensures { λ r. ⌜ r ≡ graphAfter self update ⌝ }
+        ensures { λ r. ⌜ r ≡ graphAfter self (stepOf update) ⌝ }
     {
         Graph {
             n: self.n,
@@ -225,9 +220,25 @@ pub fn closes_again(update: Update, marks: &[u8]) -> bool
     }
 }
 
-// How many places of the step list an update takes.
+// The number 9 where an update is a step and the list is full, else 0.
+pub fn place_number(full: bool, update: Update) -> u8
+    ensures { λ r. ⌜ r ≡ placeNumber full update ⌝ }
+{
+    match update {
+        Update::Step { edge: _ } => {
+            if full {
+                return LIST_FULL;
+            }
+            0
+        }
+        Update::Terminal { state: _ } => 0,
+        Update::Close { state: _ } => 0,
+    }
+}
+
+// How many places of the step list an update takes that is no repeat.
 fn places(update: Update) -> usize
-    ensures { λ r. ⌜ (r ≡ length (added update)) × (r ≤ 1) ⌝ }
+    ensures { λ r. ⌜ (r ≡ length (stepOf update)) × (r ≤ 1) ⌝ }
 {
     match update {
         Update::Step { edge: _ } => 1,

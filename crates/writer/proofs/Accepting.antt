@@ -2,17 +2,19 @@
 -- Assumes nothing.
 use mathlib.Core.Path.{_≡_, refl, _∙_, ap}
 use mathlib.Core.Logic.{inl, inr}
-use mathlib.Core.List.{List, [], _∷_, List·Memᴰ, List·Memᴰ·head, List·Memᴰ·tail}
+use mathlib.Core.List.{List, [], _∷_, _++_, List·Memᴰ, List·Memᴰ·head, List·Memᴰ·tail}
 use mathlib.Core.Option.{none}
-use mathlib.Core.Bool.{false}
+use mathlib.Core.Bool.{Bool, true, false, not, cond, _&&_, and-false}
 use Prim.Native.Nat.{ℕ, _+_, _≤_, _<_}
 use native.Mathlib.Omega.{arith}
+use lib.Dec.{eqb}
 use lib.ListN.{length, length-append}
 use borrow.Author.Tests.{lt-leb, le-ltb, ne-eqb}
+use Rattle.gid.specs.declared.Edge.{Edge}
 use Rattle.gid.specs.declared.Update.{Update}
 use Rattle.gid.specs.declared.Update.the-variants.{Step, Terminal, Close}
 use Rattle.gid.specs.Updates.{Mentions}
-use Rattle.gid.specs.Histories.{History, IsClosed, MayFollow, Legal, following, added, listed}
+use Rattle.gid.specs.Histories.{History, IsClosed, MayFollow, Legal, following, isIn, added, listed}
 use Rattle.gid.specs.Statuses.{isClosed}
 use Rattle.gid.specs.News.{news}
 use Rattle.gid.specs.Refusals.{lent, sent, refusal, maxSteps, maxKey}
@@ -41,7 +43,7 @@ legal-before h (x ∷ l) p = legal-before (x ∷ h) l p .0
 fewer-before : (h : History) (l : List Update) → length (listed h) ≤ length (listed (following h l))
 unfolding listed
 fewer-before h [] = omega arith
-fewer-before h (x ∷ l) = omega (arith, length-append (listed h) (added x), fewer-before (x ∷ h) l)
+fewer-before h (x ∷ l) = omega (arith, length-append (listed h) (added (isIn (listed h)) x), fewer-before (x ∷ h) l)
 
 module _ (limit : ℕ) (some-limit : 0 < limit) (low : limit ≤ maxSteps) where
   -- no test applies to an update that may follow
@@ -55,8 +57,12 @@ module _ (limit : ℕ) (some-limit : 0 < limit) (low : limit ≤ maxSteps) where
       unclosed : (u : ℕ) → (IsClosed h u → ⊥) → isClosed h u ≡ false
       unclosed u n = refutes (isClosed h u) (decides-closed h u) n
 
+      placed : (e : Edge) (b : Bool) → length (listed h ++ cond b [] (e ∷ [])) ≤ limit → eqb (length (listed h)) limit && not b ≡ false
+      placed e true k = and-false (eqb (length (listed h)) limit)
+      placed e false k = rw (ne-eqb (length (listed h)) limit (λ z. omega (arith, length-append (listed h) (e ∷ []))))
+
       sent-passed : (y : Update) → InBounds readerStates y → MayFollow h y → length (listed (y ∷ h)) ≤ limit → NoneApply (sent (givenAfter readerStates limit h) y)
-      sent-passed (Step e) q n k = (rw (lt-leb readerStates (e .from) (q .0 (e .from) (inl refl)), lt-leb readerStates (e .to) (q .0 (e .to) (inr refl))), (le-ltb maxKey (e .key) (q .1), (unclosed (e .from) n, (ne-eqb (length (listed h)) limit (λ z. omega (arith, length-append (listed h) (e ∷ []))), tt))))
+      sent-passed (Step e) q n k = (rw (lt-leb readerStates (e .from) (q .0 (e .from) (inl refl)), lt-leb readerStates (e .to) (q .0 (e .to) (inr refl))), (le-ltb maxKey (e .key) (q .1), (unclosed (e .from) n, (placed e (isIn (listed h) e) k, tt))))
       sent-passed (Terminal u) q n k = (lt-leb readerStates u (q .0 u refl), (unclosed u n, tt))
       sent-passed (Close u) q n k = (lt-leb readerStates u (q .0 u refl), tt)
 

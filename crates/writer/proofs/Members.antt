@@ -1,10 +1,10 @@
--- The written updates as a history: it is legal, whatever the tables hold, and has their listed steps in their order. Where the tables fit, its updates are those of the history that they fit for.
+-- The written updates as a history: it is legal, whatever the tables hold, and has their listed steps in their order, where no two are equal. Where the tables fit, its updates are those of the history that they fit for.
 -- Assumes nothing.
 use mathlib.Core.Path.{_≡_, refl, sym, _∙_, ap}
 use mathlib.Core.Logic.{_⊎_, inl, inr, ⊎-elim}
-use mathlib.Core.Bool.{Bool, true, false, cond}
-use mathlib.Core.List.{List, [], _∷_, _++_, append-assoc, append-nil, List·Memᴰ, List·Memᴰ·head, List·Memᴰ·tail, List·Memᴰ·cases-cons, List·Memᴰ·not-nil, List·Memᴰ·append-cases, List·Memᴰ·eq-of-singleton, Memᴰ·append-left, Memᴰ·append-right}
-use Prim.Native.Nat.{ℕ, zero, suc, _+_, _≤_, _<_}
+use mathlib.Core.Bool.{Bool, true, false, cond, false≢true}
+use mathlib.Core.List.{List, [], _∷_, _++_, append-nil, List·Memᴰ, List·Memᴰ·head, List·Memᴰ·tail, List·Memᴰ·cases-cons, List·Memᴰ·not-nil, List·Memᴰ·append-cases, List·Memᴰ·eq-of-singleton, Memᴰ·append-left, Memᴰ·append-right}
+use Prim.Native.Nat.{ℕ, zero, suc, _≤_, _<_}
 use native.Mathlib.Omega.{arith}
 use native.Mathlib.Decide.{ℕ-discrete}
 use lib.ListN.{getD, take}
@@ -13,15 +13,16 @@ use Rattle.gid.specs.declared.Edge.{Edge}
 use Rattle.gid.specs.declared.Update.{Update}
 use Rattle.gid.specs.declared.Update.the-variants.{Step, Terminal, Close}
 use Rattle.gid.specs.Updates.{edge}
-use Rattle.gid.specs.Histories.{History, Has, IsClosed, MayFollow, Legal, following, listed}
+use Rattle.gid.specs.Histories.{History, Has, IsClosed, MayFollow, Legal, following, isIn, listed}
 use Rattle.gid.proofs.Decide.{Decides}
-use Rattle.gid.proofs.Listing.{has-listed, listed-has}
+use Rattle.gid.proofs.Listing.{in-last, new-listed, has-listed, listed-has}
 use Rattle.gid.proofs.Tests.{decides-terminal, decides-closed, step-close, terminal-close}
 use Rattle.tables.specs.declared.Graph.{Graph}
 use Rattle.tables.specs.Tables.{Tables}
+use Rattle.tables.specs.Listing.{Distinct}
 use Rattle.tables.specs.Fitting.{marksOf, Consistent}
 use Rattle.tables.proofs.Bits.{marks-bits}
-use Rattle.tables.proofs.Listed.{listed-at}
+use Rattle.tables.proofs.Listed.{listed-at, consistent-distinct}
 use Rattle.writer.specs.declared.marking.Mark.{Mark}
 use Rattle.writer.specs.declared.marking.Mark.the-variants.{Terminal as ForTerminal, Close as ForClose}
 use Rattle.writer.specs.Order.{hasMark, marking, inOrder, isMarked, markedLines, edgeAt, stepAt, stepLines, writtenUpdates}
@@ -100,12 +101,27 @@ module _ (marks from to key : List ℕ) where
       at true = listed-mark k (following h (markedLines k n marks)) n
       at false = refl
 
-  -- and the steps are listed one behind the other.
-  listed-steps : (m : ℕ) (h : History) → listed (following h (stepLines m from to key)) ≡ listed h ++ firsts m from to key
-  unfolding inOrder firsts listed
-  listed-steps zero h = sym (append-nil (listed h))
-  listed-steps (suc m) h =
-      rw (following-append h (stepLines m from to key) (stepAt from to key m ∷ []), listed-steps m h) (append-assoc (listed h) (firsts m from to key) (edgeAt from to key m ∷ []))
+  -- and steps of which no two are equal are listed one behind the other.
+  firsts-in : (m : ℕ) (e : Edge) → isIn (firsts m from to key) e ≡ true → (p : ℕ) × (p < m) × (edgeAt from to key p ≡ e)
+  unfolding firsts isIn
+  firsts-in zero e q = absurd (false≢true q)
+  firsts-in (suc m) e q =
+      ⊎-elim (λ i. let r = firsts-in m e i in (r .0, omega (arith, r .1), r .2)) (λ d. (m, omega arith, d)) (in-last (firsts m from to key) (edgeAt from to key m) e .sound q)
+
+  listed-steps : (m : ℕ) (h : History) → listed h ≡ [] → Distinct m from to key → listed (following h (stepLines m from to key)) ≡ firsts m from to key
+  unfolding inOrder firsts
+  listed-steps zero h z d = z
+  listed-steps (suc m) h z d =
+      let older = listed-steps m h z (λ p q a b. d p q a (omega arith)) in
+      rw (following-append h (stepLines m from to key) (stepAt from to key m ∷ []))
+      (new-listed (following h (stepLines m from to key)) (edgeAt from to key m) (rw older new) ∙ rw older)
+    where
+      new : isIn (firsts m from to key) (edgeAt from to key m) ≡ false
+      new = fails (isIn (firsts m from to key) (edgeAt from to key m)) (λ q. let r = firsts-in m (edgeAt from to key m) q in d (r .0) m (r .1) (omega arith) (ap (λ (e : Edge). e .from) (r .2)) (ap (λ (e : Edge). e .to) (r .2)) (ap (λ (e : Edge). e .key) (r .2)))
+        where
+          fails : (b : Bool) → (b ≡ true → ⊥) → b ≡ false
+          fails true n = absurd (n refl)
+          fails false n = refl
 
 module _ (n m : ℕ) (marks from to key : List ℕ) where
   abbrev terminals : History
@@ -120,11 +136,11 @@ module _ (n m : ℕ) (marks from to key : List ℕ) where
       following-append [] (markedLines ForTerminal n marks) (stepLines m from to key ++ markedLines ForClose n marks) ∙
       following-append terminals (stepLines m from to key) (markedLines ForClose n marks)
 
-  -- The steps of the written updates are the listed ones, in list order.
-  written-listed : listed (following [] (writtenUpdates n m marks from to key)) ≡ firsts m from to key
+  -- The steps of the written updates are the listed ones, in list order, where no two are equal.
+  written-listed : Distinct m from to key → listed (following [] (writtenUpdates n m marks from to key)) ≡ firsts m from to key
   unfolding listed
-  written-listed =
-      rw (parts-follow, listed-marks marks from to key ForClose n stepped, listed-steps marks from to key m terminals, listed-marks marks from to key ForTerminal n [])
+  written-listed d =
+      rw (parts-follow, listed-marks marks from to key ForClose n stepped) (listed-steps marks from to key m terminals (listed-marks marks from to key ForTerminal n []) d)
 
   -- Terminal marks and steps come before every close.
   pub written-legal : Legal (following [] (writtenUpdates n m marks from to key))
@@ -193,5 +209,5 @@ module _ {h : History} {g : Graph} {t : Tables} (c : Consistent h g t) where
   -- The steps are the history's, in their order.
   pub same-list : listed (following [] (writtenOf g t)) ≡ listed h
   same-list =
-      written-listed (g .n) (g .steps) (t .marks) (t .from) (t .to) (t .key) ∙ firsts-take (g .steps) (omega arith) ∙
+      written-listed (g .n) (g .steps) (t .marks) (t .from) (t .to) (t .key) (consistent-distinct c) ∙ firsts-take (g .steps) (omega arith) ∙
       ap (λ (i : ℕ). take i (listed h)) (c .steps) ∙ take-length (listed h)

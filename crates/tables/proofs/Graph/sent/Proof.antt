@@ -24,10 +24,10 @@ returns : tie.Need-returns
 returns c = rw (c .before .before .update .given .1) (c .sent-step .ensures)
 
 returns-2 : tie.Need-returns-2
-returns-2 c = rw (c .before .before .update2 .given .1) (c .sent-terminal .ensures _)
+returns-2 c = rw (c .before .before .update2 .given .1) (c .sent-terminal .ensures)
 
 returns-3 : tie.Need-returns-3
-returns-3 c = rw (c .before .before .update3 .given .1) (c .sent-close .ensures _ _)
+returns-3 c = rw (c .before .before .update3 .given .1) (c .sent-close .ensures _)
 
 pub sent-spec : {M : Type 1} → statement M
 sent-spec =

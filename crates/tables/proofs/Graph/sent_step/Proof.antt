@@ -29,11 +29,7 @@ returns-4 c = simp (lt-leb _ _ (c .before .before .before .before .before .befor
 
 returns-5 : tie.Need-returns-5
 unfolding sentNumber
-returns-5 c = simp (lt-leb _ _ (c .before .before .before .before .before .before .before .before .before .if1 .left), lt-leb _ _ (c .before .before .before .before .before .before .if2 .left), le-ltb _ _ (c .before .before .before .before .if3 .left), sym (c .before .before .has-closed .ensures) ∙ c .before .if4 .left, c .if5 .taken)
-
-returns-6 : tie.Need-returns-6
-unfolding sentNumber
-returns-6 c = simp (lt-leb _ _ (c .before .before .before .before .before .before .before .before .before .if1 .left), lt-leb _ _ (c .before .before .before .before .before .before .if2 .left), le-ltb _ _ (c .before .before .before .before .if3 .left), sym (c .before .before .has-closed .ensures) ∙ c .before .if4 .left, c .if5 .left)
+returns-5 c = simp (lt-leb _ _ (c .before .before .before .before .before .before .before .before .if1 .left), lt-leb _ _ (c .before .before .before .before .before .if2 .left), le-ltb _ _ (c .before .before .before .if3 .left), sym (c .before .has-closed .ensures) ∙ c .if4 .left)
 
 pub sent-step-spec : {M : Type 1} → statement M
 sent-step-spec =
@@ -45,5 +41,4 @@ sent-step-spec =
     shared-slice-read-has-closed
     has-closed-requires
     returns-4
-    returns-5
-    returns-6)
+    returns-5)

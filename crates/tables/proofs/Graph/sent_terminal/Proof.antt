@@ -10,7 +10,7 @@ use Rattle.tables.proofs.marks.has_closed.Reads as has-closed-reads
 
 returns : tie.Need-returns
 unfolding sentNumber
-returns c full = simp (le-leb _ _ (c .if1 .taken))
+returns c = simp (le-leb _ _ (c .if1 .taken))
 
 shared-slice-read-has-closed : tie.Need-shared-slice-read-has-closed
 shared-slice-read-has-closed c = search needs
@@ -20,11 +20,11 @@ has-closed-requires c κs = search needs
 
 returns-2 : tie.Need-returns-2
 unfolding sentNumber
-returns-2 c full = simp (lt-leb _ _ (c .before .before .before .if1 .left), sym (c .before .has-closed .ensures) ∙ c .if2 .taken)
+returns-2 c = simp (lt-leb _ _ (c .before .before .before .if1 .left), sym (c .before .has-closed .ensures) ∙ c .if2 .taken)
 
 returns-3 : tie.Need-returns-3
 unfolding sentNumber
-returns-3 c full = simp (lt-leb _ _ (c .before .before .before .if1 .left), sym (c .before .has-closed .ensures) ∙ c .if2 .left)
+returns-3 c = simp (lt-leb _ _ (c .before .before .before .if1 .left), sym (c .before .has-closed .ensures) ∙ c .if2 .left)
 
 pub sent-terminal-spec : {M : Type 1} → statement M
 sent-terminal-spec =

@@ -1,0 +1,17 @@
+-- `has_bit` reads a bit.
+-- Assumes nothing.
+use mathlib.Core.Path.{refl}
+use borrow.Author.Needs.{needs}
+use Rattle.audit.specs.Bits.{hasBit}
+use Rattle.audit.proofs.bits.has_bit.Statement.{statement}
+use Rattle.audit.proofs.bits.has_bit.Tie as tie
+
+shr-result : tie.Need-shr-result
+shr-result c = search needs
+
+returns : tie.Need-returns
+unfolding hasBit
+returns c = refl
+
+pub has-bit-spec : {M : Type 1} → statement M
+has-bit-spec = tie.close (tie.spec shr-result returns)

@@ -1,0 +1,2 @@
+-- The laws of first places.
+pub mod Places
