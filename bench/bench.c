@@ -198,9 +198,11 @@ static double now(void)
     return (double)t.tv_sec * 1e9 + (double)t.tv_nsec;
 }
 
+static size_t limit = MAX_STEPS;
+
 static inline uint32_t send(update_call *update, Sent u, size_t *steps)
 {
-    return update(n, MAX_STEPS, steps, u.kind, u.first, u.second, u.key, status, MAX_STATES, marks, MAX_STATES, from, MAX_STEPS, to,
+    return update(n, limit, steps, u.kind, u.first, u.second, u.key, status, MAX_STATES, marks, MAX_STATES, from, MAX_STEPS, to,
                   MAX_STEPS, key, MAX_STEPS, successor, MAX_STATES, news, MAX_STATES, in_head, MAX_STATES, out_head, MAX_STATES, queue,
                   MAX_STATES, visited, MAX_STATES, in_next, MAX_STEPS, out_next, MAX_STEPS);
 }
@@ -513,9 +515,9 @@ static void show_calls(void)
 
 enum { ASK_RUNS = 201, ASK_CALLS = 64, ENGINES = 1 + PLAIN, SIZES = 5, SHAPES = 2 };
 
-// A step that takes the last place of so many; one listed among the first 16 places, in the middle, among the last 16; one from a closed
-// state.
-typedef enum { NEW_STEP, FIRST_AGAIN, MIDDLE_AGAIN, LAST_AGAIN, FROM_CLOSED, ASKED } Asked;
+// A step that takes the last place of so many; one listed among the first 16 places, in the middle, among the last 16; one that finds no
+// place; one from a closed state.
+typedef enum { NEW_STEP, FIRST_AGAIN, MIDDLE_AGAIN, LAST_AGAIN, ONE_TOO_MANY, FROM_CLOSED, ASKED } Asked;
 
 static const size_t listed_sizes[SIZES] = {64, 256, 1024, 4096, 8192};
 static const struct {
@@ -543,7 +545,7 @@ static void list_steps(size_t listed, size_t sources)
 static Sent nth_asked(Asked what, size_t listed, size_t sources)
 {
     uint16_t unlisted = (uint16_t)(NEW_TARGETS + below(NEW_TARGETS - 1));
-    if (what == NEW_STEP) return (Sent){'E', (uint8_t)below(MAX_KEY + 1), (uint16_t)below(sources), unlisted};
+    if (what == NEW_STEP || what == ONE_TOO_MANY) return (Sent){'E', (uint8_t)below(MAX_KEY + 1), (uint16_t)below(sources), unlisted};
     if (what == FROM_CLOSED) return (Sent){'E', (uint8_t)below(MAX_KEY + 1), CLOSED_STATE, unlisted};
     size_t p = below(16) + (what == FIRST_AGAIN ? 0 : what == MIDDLE_AGAIN ? listed / 2 - 8 : listed - 16);
     return (Sent){'E', key[p], from[p], to[p]};
@@ -552,7 +554,7 @@ static Sent nth_asked(Asked what, size_t listed, size_t sources)
 // Nanoseconds a call. A new step is taken back behind each: two entries, counted with it.
 static double ask(update_call *update, Asked what, const Sent *asked, size_t listed)
 {
-    uint32_t right = what == FROM_CLOSED ? REFUSED + 6 : 0, wrong = 0;
+    uint32_t right = what == FROM_CLOSED ? REFUSED + 6 : what == ONE_TOO_MANY ? REFUSED + 9 : 0, wrong = 0;
     size_t before = what == NEW_STEP ? listed - 1 : listed;
     double start = now();
     for (int i = 0; i < ASK_CALLS; i++) {
@@ -577,12 +579,14 @@ static Asking measure_asked(Asked what, size_t listed, size_t sources)
     Sent asked[ASK_CALLS];
     Asking result;
     list_steps(what == NEW_STEP ? listed - 1 : listed, sources);
+    limit = what == ONE_TOO_MANY ? listed : MAX_STEPS;
     for (int r = 0; r < ASK_RUNS; r++) {
         for (int i = 0; i < ASK_CALLS; i++) asked[i] = nth_asked(what, listed, sources);
         times[0][r] = ask(radvoinis_update, what, asked, listed);
         for (int b = 0; b < PLAIN; b++) times[1 + b][r] = ask(plain_update[b], what, asked, listed);
     }
     for (int e = 0; e < ENGINES; e++) result.ns[e] = median(times[e], ASK_RUNS);
+    limit = MAX_STEPS;
     return result;
 }
 
@@ -591,21 +595,23 @@ static void show_asked(void)
     Asking new_step = {{0}};
     out("\n## Steps that are new, that come again and that are refused\n\n"
         "Nanoseconds of a step where so many are listed, out of any state or out of 16 alone: a new one, which takes the last place;\n"
-        "one that is listed among the first 16 places, in the middle or among the last 16, and comes again; one from a closed state,\n"
-        "refused with 6. For the proved engine (p) and the C, medians of %d runs of %d calls, the engines in turn. A step is looked for\n"
-        "along 8 steps out of its source at most, and then in the whole list.\n\n",
+        "one that is listed among the first 16 places, in the middle or among the last 16, and comes again; one that is not listed\n"
+        "where the list is full, refused with 9; one from a closed state, refused with 6. For the proved engine (p) and the C, medians\n"
+        "of %d runs of %d calls, the engines in turn. A step is looked for along 8 steps out of its source at most, and then in the\n"
+        "whole list.\n\n",
         ASK_RUNS, ASK_CALLS);
-    out("| steps out of         | listed |   new: p |       C | first: p |       C | middle: p |       C | last: p |       C |    6: p |       C |\n");
-    out("| -------------------- | -----: | -------: | ------: | -------: | ------: | --------: | ------: | ------: | ------: | ------: | ------: |\n");
+    out("| steps out of         | listed |   new: p |       C | first: p |       C | middle: p |       C | last: p |       C |    9: p |       C |    6: p |       C |\n");
+    out("| -------------------- | -----: | -------: | ------: | -------: | ------: | --------: | ------: | ------: | ------: | ------: | ------: | ------: | ------: |\n");
     for (int s = 0; s < SHAPES; s++)
         for (int k = 0; k < SIZES; k++) {
             Asking x[ASKED];
             progress("steps out of", shapes[s].name);
             for (int what = 0; what < ASKED; what++) x[what] = measure_asked((Asked)what, listed_sizes[k], shapes[s].sources);
             progress("", "");
-            out("| %-20s | %6zu | %8.1f | %7.1f | %8.1f | %7.1f | %9.1f | %7.1f | %7.1f | %7.1f | %7.1f | %7.1f |\n", shapes[s].name,
-                listed_sizes[k], x[0].ns[0], x[0].ns[1], x[1].ns[0], x[1].ns[1], x[2].ns[0], x[2].ns[1], x[3].ns[0], x[3].ns[1],
-                x[4].ns[0], x[4].ns[1]);
+            out("| %-20s | %6zu | %8.1f | %7.1f | %8.1f | %7.1f | %9.1f | %7.1f |", shapes[s].name, listed_sizes[k], x[0].ns[0], x[0].ns[1],
+                x[1].ns[0], x[1].ns[1], x[2].ns[0], x[2].ns[1]);
+            for (int what = LAST_AGAIN; what < ASKED; what++) out(" %7.1f | %7.1f |", x[what].ns[0], x[what].ns[1]);
+            out("\n");
             if (listed_sizes[k] == MAX_STEPS && s == 0) new_step = x[NEW_STEP];
         }
     out("\n");

@@ -125,7 +125,7 @@ uint32_t radvoinis_tables_fresh(radvoinis_tables *t, void *memory, size_t size, 
 /* The updates: a step from state to state, by key 0 or by a key that is sent, a terminal mark, a close. Each answers the number of its
    news, which stand in the front of t->news, or RADVOINIS_REFUSED plus the number of its refusal (1 to 6, 9, 14), and then changes
    nothing. A step that is listed already, by the same key, answers 0 and takes no place, also where the list is full; a close of a
-   closed state answers 0. Neither changes anything. */
+   closed state answers 0. Where the tables fit, neither changes anything. */
 uint32_t radvoinis_step(radvoinis_tables *t, uint32_t from, uint32_t to);
 uint32_t radvoinis_step_by_key(radvoinis_tables *t, uint32_t from, uint32_t to, uint32_t key);
 uint32_t radvoinis_terminal(radvoinis_tables *t, uint32_t state);
@@ -172,9 +172,8 @@ uint32_t radvoinis_state_status(size_t n, size_t limit, size_t steps, const uint
 size_t radvoinis_news_len(const uint16_t *news, size_t news_len, size_t count);
 
 /* The table check: 1 where the tables fit (some legal history gives them, so that no two listed steps are equal, and the work tables
-   fit), 0 where they do not; or
-   RADVOINIS_REFUSED plus the number of the refusal (1 to 4), and changes nothing. It writes queue and visited alone, below n;
-   after a 1 no state is marked visited. */
+   fit), 0 where they do not; or RADVOINIS_REFUSED plus the number of the refusal (1 to 4), and changes nothing. It writes queue and
+   visited alone, below n; after a 1 no state is marked visited. */
 uint32_t radvoinis_audit(size_t n, size_t limit, size_t steps,
                          const uint8_t *status, size_t status_len, const uint8_t *marks, size_t marks_len,
                          const uint16_t *from, size_t from_len, const uint16_t *to, size_t to_len, const uint8_t *key, size_t key_len,
