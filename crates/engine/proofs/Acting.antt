@@ -20,8 +20,8 @@ use Rattle.gid.proofs.Update.{the-type}
 use Rattle.tables.specs.Marks.{withNamed}
 use Rattle.adjacency.specs.Walks.{Pushed}
 use Rattle.search.specs.Escaping.{Escape, Near}
-use Rattle.engine.specs.Effects.{markAt, setMarks}
-use Rattle.engine.specs.Preparing.{nameAt, namesAfter, statusAgain, marksAgain, InRange, KeyBelow, Free}
+use Rattle.engine.specs.Effects.{markAt, setMarks, nameAt, namesAfter}
+use Rattle.engine.specs.Preparing.{statusAgain, marksAgain, InRange, KeyBelow, Free}
 use Rattle.engine.specs.Judging.{unlessLive, quickened, endangered}
 use Rattle.engine.specs.Done.{Listed, pushed, same}
 

@@ -1,4 +1,4 @@
--- An update that comes again, a close of a closed state or a repeated step: tables that fit for a history fit for the history with it, so that an engine that only names its states keeps the promise; and one that keeps the promise changes nothing by a close of a closed state.
+-- An update that comes again, a close of a closed state or a repeated step: tables that fit for a history fit for the history with it, so that an engine that only names the states of a repeated step keeps the promise; and one that keeps the promise changes nothing by a close of a closed state, and by a repeated step nothing but names.
 -- Assumes nothing.
 use mathlib.Core.Path.{_≡_, refl, sym, _∙_, ap, subst}
 use mathlib.Core.Logic.{inl, inr}
@@ -33,8 +33,8 @@ use Rattle.tables.proofs.Refusing.{accepted-again}
 use Rattle.engine.specs.declared.Answer.{Answer}
 use Rattle.engine.specs.declared.Answer.the-variants.{Accepted, Refused}
 use Rattle.engine.specs.Answers.{answerNumber, newsCount}
-use Rattle.engine.specs.Effects.{markAt, setMarks}
-use Rattle.engine.specs.Preparing.{InRange, namedByte, nameAt, namesAfter, statusAgain, marksAgain}
+use Rattle.engine.specs.Effects.{markAt, setMarks, namedByte, nameAt, namesAfter, onlyNamed}
+use Rattle.engine.specs.Preparing.{InRange, statusAgain, marksAgain}
 use Rattle.engine.specs.Promise.{NewsKept, AcceptedUpdate, Promise}
 use Rattle.engine.proofs.Keeping.{marks-kept, names-kept}
 use Rattle.engine.proofs.Settlement.{byTests}
@@ -114,15 +114,14 @@ module _ {h : History} {g : Graph} {t : Tables} (c : Consistent h g t) (e : Edge
   ends : (s : ℕ) → Mentions (Step e) s → (s < g .n) × (isNamed h s ≡ true)
   ends s m = let n : IsNamed h s = (Step e, has, m) in (c .inRange s n, decides-named h s .complete n)
 
-  renamed-same : renamed (Step e) t ≡ t
-  unfolding statusAgain marksAgain
-  renamed-same =
+  named-same : onlyNamed (Step e) t ≡ t
+  named-same =
       let u = ends (e .from) (inl refl) in
       let v = ends (e .to) (inr refl) in
       rw (name-same c (e .to) (v .0) (v .1) (nameAt (e .from) (t .status)) (name-same c (e .from) (u .0) (u .1) (t .status) refl), mark-same c (e .to) (v .0) (v .1) (markAt withNamed (e .from) (t .marks)) (mark-same c (e .from) (u .0) (u .1) (t .marks) refl))
 
 -- What naming its states keeps.
-named-kept : (g : Graph) (t : Tables) (x : Update) → InRange (g .n) x → KeptTables (g .n) (nodesOf g) (g .limit) t (tablesOf (namesAfter x (t .status)) (setMarks x (t .marks)) (t .from) (t .to) (t .key) (t .successor) (t .news) (t .inHead) (t .outHead) (t .queue) (t .visited) (t .inNext) (t .outNext))
+named-kept : (g : Graph) (t : Tables) (x : Update) → InRange (g .n) x → KeptTables (g .n) (nodesOf g) (g .limit) t (onlyNamed x t)
 named-kept g t x r =
     let k = tables-same (g .n) (nodesOf g) (g .limit) t in
     record {
@@ -159,8 +158,8 @@ again-accepted g (Step e) t r i =
       kept = named-kept g t (Step e) i;
       named = none-named (t .news);
       again = λ q. absurd (false≢true q);
-      repeated = λ q. (refl, refl, λ h l c. renamed-same c e (has h c));
-      fits = λ h l c. let m = has h c in (subst (λ (a : Tables). Consistent (Step e ∷ h) g a) (sym (renamed-same c e m)) (again-fits c (Step e) m), sym (repeated-news m (g .n)));
+      repeated = λ q. (refl, refl, refl);
+      fits = λ h l c. let m = has h c in (subst (λ (a : Tables). Consistent (Step e ∷ h) g a) (sym (named-same c e m)) (again-fits c (Step e) m), sym (repeated-news m (g .n)));
     }
   where
     has : (h : History) → Consistent h g t → Has h (Step e)
@@ -190,13 +189,13 @@ close-again {g} {g′} {t} {t′} {a} u p l i c =
     let w = p .accepts e .again c in
     (answered a (p .number ∙ e) (w .0), w .1, w .2)
 
--- "A step equal in from, to and key to a listed one is accepted without taking a place, also when the list is full": of every such engine, on tables with any contents, wherever the tests 1 to 6 and 14 find nothing. It has no news.
+-- "A step equal in from, to and key to a listed one is accepted without taking a place, also when the list is full": of every such engine, on tables with any contents, wherever the tests 1 to 6 and 14 find nothing. It has no news, and names its states; on tables that fit nothing changes.
 pub step-again :
     {g g′ : Graph} {t t′ : Tables} {a : Answer} (e : Edge) → Promise g (Step e) t g′ a t′ →
-    lentNumber g (longEnough g t) ≡ 0 → sentNumber g (t .marks) (Step e) ≡ 0 → listedOn g t e ≡ true → (a ≡ Accepted 0) × (g′ ≡ g) × (t′ .from ≡ t .from) × (t′ .to ≡ t .to) × (t′ .key ≡ t .key)
+    lentNumber g (longEnough g t) ≡ 0 → sentNumber g (t .marks) (Step e) ≡ 0 → listedOn g t e ≡ true →
+    (a ≡ Accepted 0) × (g′ ≡ g) × (t′ ≡ onlyNamed (Step e) t) × ((h : History) → Consistent h g t → t′ ≡ t)
 unfolding isAgain
 step-again {g} {g′} {t} {t′} {a} e p l s c =
     let q = accepted-again g t (Step e) l s c in
-    let w = p .accepts q in
-    let r = w .repeated c in
-    (answered a (p .number ∙ q) (r .0), r .1, w .from ∙ rw c, w .to ∙ rw c, w .key ∙ rw c)
+    let r = p .accepts q .repeated c in
+    (answered a (p .number ∙ q) (r .0), r .1, r .2, λ h k. r .2 ∙ named-same k e (decides-listed h e .sound (sym (listed-same k e) ∙ c)))

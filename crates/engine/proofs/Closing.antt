@@ -40,7 +40,7 @@ use Rattle.search.specs.Escaping.{toward, Near}
 use Rattle.search.specs.Searches.{SearchTables, Sweeps}
 use Rattle.search.proofs.Spreading.{begun-queued, begun-which, begun-here, begun-visited}
 use Rattle.search.proofs.Dying.{Endangers, same-starts, chained-undead, Chained, dies-unknown, dies-dead, dies-within, known-kept, goes-all, goes-undead, near-goes}
-use Rattle.engine.specs.Preparing.{nameAt, namedByte}
+use Rattle.engine.specs.Effects.{nameAt, namedByte}
 use Rattle.engine.specs.Judging.{unknownAt, followedBy, begunWith}
 use Rattle.engine.specs.Outcomes.{Right}
 use Rattle.engine.proofs.Naming.{set-at, named-live}

@@ -28,8 +28,8 @@ use Rattle.search.specs.Settling.{settledFrom, Settled}
 use Rattle.search.specs.Searches.{SearchTables, Revives, Sweeps}
 use Rattle.search.proofs.Settling.{told-same}
 use Rattle.tables.specs.Marks.{withNamed, withTerminal, withClosed}
-use Rattle.engine.specs.Effects.{markAt, setMarks}
-use Rattle.engine.specs.Preparing.{nameAt, namedByte, namesAfter, InRange, Storable}
+use Rattle.engine.specs.Effects.{markAt, setMarks, nameAt, namedByte, namesAfter}
+use Rattle.engine.specs.Preparing.{InRange, Storable}
 use Rattle.engine.specs.Judging.{Judged, quiet, revived, nears, swept, unknownAt, followedBy, begunWith}
 use Rattle.engine.specs.Done.{Done, Chained, pushed, same}
 use Rattle.engine.specs.declared.Answer.the-variants.{Accepted}

@@ -18,8 +18,8 @@ use Rattle.gid.specs.Statuses.{isNamed, isTerminal, isClosed, statusUnseen, sta
 use Rattle.tables.specs.Marks.{withNamed, withTerminal, withClosed}
 use Rattle.tables.specs.Fitting.{marksOf}
 use Rattle.tables.proofs.Bits.{bits, byte}
-use Rattle.engine.specs.Effects.{markAt, setMarks}
-use Rattle.engine.specs.Preparing.{namedByte, InRange}
+use Rattle.engine.specs.Effects.{markAt, setMarks, namedByte}
+use Rattle.engine.specs.Preparing.{InRange}
 
 -- an entry after a store at u
 pub set-at : (l : List ℕ) (u v : ℕ) → u < length l → (s : ℕ) → getD (set l u v) s 0 ≡ cond (eqb u s) v (getD l s 0)

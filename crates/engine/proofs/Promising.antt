@@ -29,8 +29,8 @@ use Rattle.tables.proofs.Listed.{listed-same}
 use Rattle.engine.specs.declared.Answer.the-variants.{Accepted, Refused}
 use Rattle.search.specs.Spreading.{chains, into, outOf, Walkable}
 use Rattle.search.specs.Escaping.{toward}
-use Rattle.engine.specs.Effects.{setMarks}
-use Rattle.engine.specs.Preparing.{namesAfter, InRange, KeyBelow, Free, Storable}
+use Rattle.engine.specs.Effects.{setMarks, namesAfter}
+use Rattle.engine.specs.Preparing.{InRange, KeyBelow, Free, Storable}
 use Rattle.engine.specs.Judging.{Judged}
 use Rattle.engine.specs.Done.{Listed, searchTables, Done, Room}
 use Rattle.engine.specs.Promise.{Promise}

@@ -36,7 +36,8 @@ use Rattle.search.specs.Offering.{Begun}
 use Rattle.search.specs.Searches.{SearchTables, Revives}
 use Rattle.search.proofs.Spreading.{begun-which, begun-here, begun-visited}
 use Rattle.search.proofs.Living.{Quickens, live-now, visited-new, visited-source, visited-within}
-use Rattle.engine.specs.Preparing.{namesAfter, InRange}
+use Rattle.engine.specs.Effects.{namesAfter}
+use Rattle.engine.specs.Preparing.{InRange}
 use Rattle.engine.specs.Judging.{unlessLive, quickened, begunWith}
 use Rattle.engine.specs.Done.{searchTables, naming}
 use Rattle.engine.proofs.Naming.{named-live}

@@ -28,7 +28,8 @@ use Rattle.tables.specs.Tables.{Tables}
 use Rattle.tables.specs.Visits.{NoneVisited}
 use Rattle.tables.specs.Fitting.{Consistent}
 use Rattle.search.specs.Searches.{SearchTables}
-use Rattle.engine.specs.Preparing.{namedByte, nameAt, namesAfter, InRange}
+use Rattle.engine.specs.Effects.{namedByte, nameAt, namesAfter}
+use Rattle.engine.specs.Preparing.{InRange}
 use Rattle.engine.specs.Outcomes.{Right}
 use Rattle.engine.proofs.Naming.{set-at}
 use Rattle.engine.proofs.Settlement.{sent-status}

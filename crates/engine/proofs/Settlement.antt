@@ -14,7 +14,7 @@ use Rattle.gid.proofs.News.{below-same, below-more}
 use Rattle.tables.specs.Visits.{NoneVisited, marked}
 use Rattle.search.specs.Settling.{toldAll, settledFrom, Settled}
 use Rattle.search.proofs.Settling.{told-same}
-use Rattle.engine.specs.Preparing.{namedByte}
+use Rattle.engine.specs.Effects.{namedByte}
 
 module _ {low high verdict : ℕ} {st su ne vi st′ su′ ne′ vi′ : List ℕ} {k : ℕ} (z : Settled low high verdict st su ne vi st′ su′ ne′ vi′ k) (n : ℕ) (top : high < n) (within : (s : ℕ) → s < n → marked vi s ≡ true → (low ≤ s) × (s ≤ high)) where
   settled-is : (s : ℕ) → s < n → settledFrom low high vi s ≡ marked vi s

@@ -15,8 +15,7 @@ use Rattle.adjacency.specs.Walks.{Pushed}
 use Rattle.search.specs.Spreading.{chains, into, outOf}
 use Rattle.search.specs.Escaping.{toward}
 use Rattle.search.specs.Searches.{SearchTables}
-use Rattle.engine.specs.Effects.{setMarks}
-use Rattle.engine.specs.Preparing.{namesAfter}
+use Rattle.engine.specs.Effects.{setMarks, namesAfter}
 use Rattle.engine.specs.Judging.{Judged}
 
 -- The chains of steps after the update x: a step is put in front of the steps out of its source and of those into its target, at the place m.

@@ -1,28 +1,12 @@
--- What an accepted update is prepared by: its states and its key are in range, a step has a place, and the states that it names are seen.
+-- What an accepted update is prepared by: its states and its key are in range, and a step has a place.
 -- Assumes nothing.
-use mathlib.Core.Bool.{cond}
 use mathlib.Core.List.{List}
 use Prim.Native.Nat.{ℕ, _<_, _≤_}
-use lib.Dec.{eqb}
-use lib.ListN.{length, getD, set}
+use lib.ListN.{length}
 use Rattle.gid.specs.declared.Update.{Update}
 use Rattle.gid.specs.declared.Update.the-variants.{Step, Terminal, Close}
-use Rattle.gid.specs.Statuses.{statusUnseen, statusOpen}
 use Rattle.gid.specs.Refusals.{maxKey}
-use Rattle.engine.specs.Effects.{setMarks}
-
--- A state that is named: unseen becomes open.
-abbrev pub namedByte : ℕ → ℕ
-namedByte b = cond (eqb b statusUnseen) statusOpen b
-
-abbrev pub nameAt : ℕ → List ℕ → List ℕ
-nameAt s status = set status s (namedByte (getD status s 0))
-
--- The statuses once the states of an update are named.
-abbrev pub namesAfter : Update → List ℕ → List ℕ
-namesAfter (Step e) status = nameAt (e .to) (nameAt (e .from) status)
-namesAfter (Terminal u) status = nameAt u status
-namesAfter (Close u) status = nameAt u status
+use Rattle.engine.specs.Effects.{setMarks, namesAfter}
 
 -- The states of an update are below n.
 abbrev pub InRange : ℕ → Update → Type 0

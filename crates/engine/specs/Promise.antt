@@ -21,7 +21,7 @@ use Rattle.tables.specs.Refused.{refusalOn}
 use Rattle.tables.specs.Fitting.{Consistent}
 use Rattle.engine.specs.declared.Answer.{Answer}
 use Rattle.engine.specs.Answers.{answerNumber, newsCount, newsOf}
-use Rattle.engine.specs.Effects.{marksAfter}
+use Rattle.engine.specs.Effects.{marksAfter, onlyNamed}
 
 -- The news names states below n in rising order; "entries behind that front keep their contents".
 pub record NewsKept (n : ℕ) (before after : List ℕ) (answer : Answer) : Type 0 where
@@ -38,13 +38,13 @@ pub record AcceptedUpdate (g : Graph) (x : Update) (t : Tables) (g′ : Graph) (
   pub from : t′ .from ≡ fromAfter (g .steps) (addedOn g t x) (t .from)
   pub to : t′ .to ≡ toAfter (g .steps) (addedOn g t x) (t .to)
   pub key : t′ .key ≡ keyAfter (g .steps) (addedOn g t x) (t .key)
-  -- every table below its needed length alone, and the news. What statuses, successors and work tables hold there is free on tables that do not fit.
+  -- every table below its needed length alone, and the news. What statuses, successors and work tables hold there is free on tables that do not fit, but for the two below.
   pub kept : KeptTables (g .n) (nodesOf g) (g .limit) t t′
   pub named : NewsKept (g .n) (t .news) (t′ .news) answer
   -- "A close of a closed state": "no news and no change" (document 02, #102).
   pub again : closesAgain x (t .marks) ≡ true → (newsCount answer ≡ 0) × (g′ ≡ g) × (t′ ≡ t)
-  -- A repeated step: no news, and the state value as before; on tables that fit, nothing changes at all.
-  pub repeated : repeats (listedOn g t) x ≡ true → (newsCount answer ≡ 0) × (g′ ≡ g) × ((h : History) → Legal h → Consistent h g t → t′ ≡ t)
+  -- A repeated step: no news, the state value as before, and its states are named. On tables that fit they are, so that nothing changes (`step-again`).
+  pub repeated : repeats (listedOn g t) x ≡ true → (newsCount answer ≡ 0) × (g′ ≡ g) × (t′ ≡ onlyNamed x t)
   -- On tables that fit for a legal history h: they fit for h followed by x, and the news is the definition's.
   pub fits : (h : History) → Legal h → Consistent h g t → Consistent (x ∷ h) g′ t′ × (newsOf answer (t′ .news) ≡ news (g .n) h x)
 

@@ -74,9 +74,7 @@ repeats has (Close u) = false
 
 -- The step that an update sends, if it is one: what it adds where no equal step is listed.
 abbrev pub stepOf : Update → List Edge
-stepOf (Step e) = e ∷ []
-stepOf (Terminal u) = []
-stepOf (Close u) = []
+stepOf x = added (λ e. false) x
 
 -- The step list of a history, "in order of acceptance": each of its steps once, at the place that it took first.
 unfoldable pub listed : History → List Edge

@@ -7,7 +7,7 @@ use lib.ListN.{getD, set}
 use lib.Seq.{set-getD}
 use borrow.Author.Needs.{needs}
 use borrow.Author.Tests.{eq-eqb, ne-eqb}
-use Rattle.engine.specs.Preparing.{nameAt}
+use Rattle.engine.specs.Effects.{nameAt}
 use Rattle.engine.proofs.accept.name.Statement.{statement}
 use Rattle.engine.proofs.accept.name.Tie as tie
 
