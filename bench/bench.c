@@ -198,6 +198,7 @@ static double now(void)
     return (double)t.tv_sec * 1e9 + (double)t.tv_nsec;
 }
 
+// As many steps as there can be, but where a list is to be full.
 static size_t limit = MAX_STEPS;
 
 static inline uint32_t send(update_call *update, Sent u, size_t *steps)

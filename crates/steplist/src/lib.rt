@@ -23,7 +23,7 @@ pub enum Place {
 const BLOCK: usize = 256;
 
 // How many of the steps out of the source the quick look follows.
-const NEAR: usize = 8;
+const QUICK: usize = 8;
 
 // Whether a step equal to this one is listed. Where the quick look meets one, the list need not be looked through.
 pub fn is_listed(
@@ -55,7 +55,7 @@ fn is_found(place: Place) -> bool
     }
 }
 
-// Whether an equal step is one of the first NEAR along the chain of steps out of the source.
+// Whether an equal step is one of the first QUICK along the chain of steps out of the source.
 fn near_repeat(
     edge: Edge,
     steps: usize,
@@ -70,7 +70,7 @@ fn near_repeat(
     ensures { λ r. ⌜ (r ≡ true → isListedIn steps (now (from .entry)) (now (to .entry)) (now (key .entry)) edge ≡ true) ⌝ }
 {
     let mut at = first(out_head, edge.from, steps);
-    let mut left = NEAR;
+    let mut left = QUICK;
     while 0 < left {
         if at == 0 {
             return false;
