@@ -54,7 +54,7 @@ pub record Promise (g : Graph) (x : Update) (t : Tables) (g′ : Graph) (answer 
   pub refuses : (k : ℕ) → refusalOn g t x ≡ some k → (newsOf answer (t′ .news) ≡ []) × (g′ ≡ g) × (t′ ≡ t)
   pub accepts : refusalOn g t x ≡ none → AcceptedUpdate g x t g′ t′ answer
 
--- The update's states are below n, and a step has a key of 0 to 31 and a free place behind the m listed steps, or is one of these.
+-- The update's states are below n; a step has a key of 0 to 31, and there is a free place behind the m listed steps, or an equal one is among these.
 abbrev pub Sendable : ℕ → ℕ → ℕ → (Edge → Bool) → Update → Type 0
 Sendable n limit m listed (Step e) = (e .from < n) × (e .to < n) × (e .key ≤ maxKey) × ((m < limit) ⊎ (listed e ≡ true))
 Sendable n limit m listed (Terminal u) = u < n
