@@ -7,7 +7,7 @@
 #include <unistd.h>
 
 enum { LIMIT = 2048, MOST_BYTES = 16, MOST_LINES = 65535, MOST_VALUE = 65535 };
-enum { BAD_NAMES = 10, MALFORMED = 11, TOO_MANY = 12 };
+enum { BAD_NAMES = 10, MALFORMED = 11, TOO_MANY = 12, BAD_COUNT = 17 };
 
 // The room in the output buffer below which it is written out: a line's text and the totals take less.
 enum { ROOM = 40960 };
@@ -20,11 +20,11 @@ static uint8_t status[MAX_STATES], marks[MAX_STATES], key[LIMIT];
 static uint16_t from[LIMIT], to[LIMIT], successor[MAX_STATES], news[MAX_STATES];
 static uint16_t in_head[MAX_STATES], out_head[MAX_STATES], queue[MAX_STATES], visited[MAX_STATES];
 static uint16_t in_next[LIMIT], out_next[LIMIT];
-static size_t steps;
+static size_t states = MAX_STATES, steps;
 
 static uint32_t update(uint8_t kind, size_t first, size_t second, size_t by_key)
 {
-    return baseline_update(MAX_STATES, LIMIT, &steps, kind, first, second, by_key, status, MAX_STATES, marks, MAX_STATES, from, LIMIT,
+    return baseline_update(states, LIMIT, &steps, kind, first, second, by_key, status, MAX_STATES, marks, MAX_STATES, from, LIMIT,
                            to, LIMIT, key, LIMIT, successor, MAX_STATES, news, MAX_STATES, in_head, MAX_STATES, out_head, MAX_STATES,
                            queue, MAX_STATES, visited, MAX_STATES, in_next, LIMIT, out_next, LIMIT);
 }
@@ -37,10 +37,15 @@ typedef struct {
     size_t len;
 } Line;
 
-// Where reading stands in the record: the line so far, its number from 1, whether lines have keys, and whether reading has stopped.
+// What a line is by its place: line 1, the count behind `states`, the names line behind a count, a further line.
+typedef enum { FIRST, COUNT, NAMES, FURTHER } Phase;
+
+// Where reading stands in the record: the line so far, its number from 1, what it is, whether lines have keys, and whether reading has
+// stopped.
 typedef struct {
     Line line;
     size_t number;
+    Phase phase;
     int keyed, stopped;
 } Splitter;
 
@@ -100,25 +105,57 @@ static uint32_t apply(const Line *line, int keyed)
     }
 }
 
-static uint32_t begun(Splitter *s)
+static uint32_t named(Splitter *s)
 {
+    s->phase = FURTHER;
     s->keyed = is_text(&s->line, "kind from to key");
     return s->keyed || is_text(&s->line, "kind from to") ? 0 : REFUSED + BAD_NAMES;
+}
+
+static uint32_t begun(Splitter *s)
+{
+    if (!is_text(&s->line, "states")) return named(s);
+    s->phase = COUNT;
+    return 0;
+}
+
+static uint32_t counted(Splitter *s)
+{
+    size_t at = 0, count;
+    s->phase = NAMES;
+    if (s->line.len > MOST_BYTES || !take_value(&s->line, &at, &count) || at < s->line.len) return REFUSED + BAD_COUNT;
+    if (count == 0 || count > MAX_STATES) return REFUSED + BAD_COUNT;
+    states = count;
+    return 0;
+}
+
+static uint32_t further(const Splitter *s) { return s->number > MOST_LINES ? REFUSED + TOO_MANY : apply(&s->line, s->keyed); }
+
+// Whether reading ends there.
+static int is_last(uint32_t answer)
+{
+    return answer == REFUSED + BAD_NAMES || answer == REFUSED + BAD_COUNT || answer == REFUSED + TOO_MANY;
 }
 
 // The line has ended: what comes of it, where nothing counts as no news.
 static uint32_t ended(Splitter *s)
 {
     if (s->stopped) return 0;
-    uint32_t answer;
-    if (s->number == 1) answer = begun(s);
-    else if (s->number > MOST_LINES) answer = REFUSED + TOO_MANY;
-    else answer = apply(&s->line, s->keyed);
-    s->stopped = answer == REFUSED + BAD_NAMES || answer == REFUSED + TOO_MANY;
+    uint32_t answer = 0;
+    switch (s->phase) {
+    case FIRST: answer = begun(s); break;
+    case COUNT: answer = counted(s); break;
+    case NAMES: answer = named(s); break;
+    case FURTHER: answer = further(s); break;
+    }
+    s->stopped = is_last(answer);
     s->line.len = 0;
     s->number++;
     return answer;
 }
+
+// Whether a line is left at the end of the input: one without its newline, or one of the head that is missing.
+static int pending(const Splitter *s) { return !s->stopped && (s->line.len > 0 || s->phase != FURTHER); }
 
 // ---- text, each written at a place of the output; answers the place after it
 
@@ -159,7 +196,7 @@ static size_t put_answer(size_t at, size_t line, uint32_t answer)
 static size_t put_totals(size_t at)
 {
     size_t counts[DEAD + 1] = {0};
-    for (size_t s = 0; s < MAX_STATES; s++) counts[status[s]]++;
+    for (size_t s = 0; s < states; s++) counts[status[s]]++;
     at = put_ending(at, "end open ", counts[OPEN]);
     at = put_ending(at, "end unknown ", counts[UNKNOWN]);
     at = put_ending(at, "end live ", counts[LIVE]);
@@ -209,8 +246,11 @@ int main(void)
     while (!s.stopped && (got = read(STDIN_FILENO, input, sizeof input)) > 0) end = list_piece(&s, (size_t)got, end);
     if (got < 0) fprintf(stderr, "radvoinis-listing: cannot read standard input\n");
     end = with_room(end);
-    size_t line = s.number;
-    if (s.line.len > 0 || line == 1) end = put_answer(end, line, ended(&s));
+    while (pending(&s)) {
+        size_t line = s.number;
+        uint32_t answer = ended(&s);
+        end = put_answer(end, line, answer);
+    }
     write_out(put_totals(end));
     return 0;
 }

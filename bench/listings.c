@@ -54,6 +54,9 @@ static void begin(int with_keys)
 
 static void names(void) { begin(1); }
 
+// A head with a count of states, as the writer puts it.
+static void counted(const char *count) { line("states"), line(count), names(); }
+
 static void names_alone(void) { names(); }
 
 // Steps between any states until their limit, few marks and closes among them.
@@ -154,6 +157,22 @@ static void steps_again(void)
     for (names(); lines < LINES;) step_by(lines % MAX_STATES, (lines + 1) % MAX_STATES, lines % MAX_STATES % (MAX_KEY + 1));
 }
 
+// A model of nine states: each with its steps to all others, by two keys, and its close.
+static void nine_states(void)
+{
+    counted("9");
+    for (size_t s = 0; s < 9; s++) {
+        for (size_t i = 0; i < 18; i++) step_by(s, i / 2, i % 2);
+        mark(s % 4 ? 'C' : 'T', s);
+    }
+}
+
+// Every line names a state at or above the count.
+static void above_count(void)
+{
+    for (counted("9"); lines < LINES;) step(9 + below(MAX_STATES - 9), below(9));
+}
+
 static const struct {
     const char *name;
     void (*make)(void);
@@ -174,6 +193,8 @@ static const struct {
     {"12 at line 65,536, the rest not read", too_many},
     {"the names line alone", names_alone},
     {"2,048 steps, each again and again", steps_again},
+    {"a model of nine states, counted", nine_states},
+    {"each line refused with 5, by a count of 9", above_count},
 };
 
 enum { KINDS = sizeof kinds / sizeof *kinds };
@@ -324,7 +345,8 @@ int main(int argc, char **argv)
         "Milliseconds a record for the proved listing program and for the same program in plain C, each a process, from its start to its\n"
         "end, with nothing taken off; lines and bytes of the record, and bytes of its listing. Medians of %d runs of each record, the\n"
         "programs in turn, by the clock on the wall. Both programs printed the same bytes. The records begin with `kind from to key`, and\n"
-        "their steps have each key in turn, but for the one without keys, which begins with `kind from to`.\n\n",
+        "their steps have each key in turn, but for the one without keys, which begins with `kind from to`; two have a count of states\n"
+        "before it.\n\n",
         RUNS);
     show_listings();
     return close_page();

@@ -61,11 +61,12 @@ enum radvoinis_refusal {
     RADVOINIS_BAD_LIMIT = 2,       /* the step limit is 0 or above 8,192 */
     RADVOINIS_SHORT_TABLE = 3,     /* a lent table is too short */
     RADVOINIS_EXCESS_STEPS = 4,    /* the number of steps is above the limit */
-    RADVOINIS_OUT_OF_RANGE = 5,    /* a state is n or more */
+    RADVOINIS_BAD_COUNT = 17,      /* behind a record's line "states", no line with a count from 1 to 2,048 */
+    RADVOINIS_OUT_OF_RANGE = 5,    /* a state is n or more; of a record, its count or more, which is 2,048 where it has none */
     RADVOINIS_BAD_KEY = 14,        /* the key of a step is above 31 */
     RADVOINIS_CLOSED_SOURCE = 6,   /* a step or a terminal mark from a closed state */
     RADVOINIS_LIST_FULL = 9,       /* a step that is not listed where the list is full */
-    RADVOINIS_BAD_NAMES = 10,      /* a record's first line is neither "kind from to" nor "kind from to key" */
+    RADVOINIS_BAD_NAMES = 10,      /* a record's first line, or the one behind its count, is not "kind from to" or "kind from to key" */
     RADVOINIS_MALFORMED = 11,      /* a line of a record is no update; a kind that is none of E, T and C */
     RADVOINIS_TOO_MANY_LINES = 12, /* a record has more than 65,535 lines */
     RADVOINIS_SHORT_BUFFER = 13    /* the record does not fit the buffer */
@@ -137,14 +138,16 @@ uint32_t radvoinis_status_of(const radvoinis_tables *t, uint32_t state);
 /* The table check: 1 where the tables fit, 0 where they do not; see radvoinis_audit. */
 uint32_t radvoinis_check(radvoinis_tables *t);
 
-/* The record writer: fills the len bytes of buf from the index *at on; see radvoinis_write. */
+/* The record writer: fills the len bytes of buf from the index *at on, with t->n as the count of states; see radvoinis_write. */
 uint32_t radvoinis_save(const radvoinis_tables *t, uint8_t *buf, size_t len, size_t *at);
 
 /* ---- The call on a record's bytes */
 
-/* The status of a state after a record of 2,048 states and at most 2,048 steps, which have key 0 where the names line is "kind from
-   to": 0 to 4; or RADVOINIS_LINE_REFUSED plus the number of the first refused line (5, 6, 9 to 12, 14). A state of 2,048 or more
-   answers 21, tested first. */
+/* The status of a state after a record: 0 to 4, or RADVOINIS_LINE_REFUSED plus a number. A record may begin with the line "states" and a
+   line with the count of its states, 1 to 2,048; without them it is of 2,048 states. Then comes its names line; where that is "kind from
+   to", its steps have key 0. At most 2,048 steps are listed. Answered is the first of these: 33 (17) where "states" stands without
+   such a count behind it, whatever state is asked; 21 (5) for a state at or above the count, whatever the lines behind it are; then the
+   first refused line (5, 6, 9 to 12, 14), if there is one; then the status. */
 uint8_t radvoinis_status(const uint8_t *record, size_t record_len, uint32_t state);
 
 /* ---- The raw calls: each table a pointer and a length, wherever the caller keeps it. */
@@ -182,8 +185,9 @@ uint32_t radvoinis_audit(size_t n, size_t limit, size_t steps,
                          uint16_t *queue, size_t queue_len, uint16_t *visited, size_t visited_len,
                          const uint16_t *in_next, size_t in_next_len, const uint16_t *out_next, size_t out_next_len);
 
-/* The record writer: fills buf from the index *at on, with the names line "kind from to key". Answers 0 and brings *at to the index
-   after the last byte; or RADVOINIS_REFUSED plus the number of the refusal (1 to 4, 13), and changes nothing. */
+/* The record writer: fills buf from the index *at on. The record begins with the lines "states", n in decimal and "kind from to key",
+   which take 25 bytes and the digits of n; in all it takes at most 29 + 22 * n + 18 * steps. Read back, it gives the same n. Answers 0 and
+   brings *at to the index after the last byte; or RADVOINIS_REFUSED plus the number of the refusal (1 to 4, 13), and changes nothing. */
 uint32_t radvoinis_write(size_t n, size_t limit, size_t steps, const uint8_t *marks, size_t marks_len,
                          const uint16_t *from, size_t from_len, const uint16_t *to, size_t to_len, const uint8_t *key, size_t key_len,
                          uint8_t *buf, size_t buf_len, size_t *at);

@@ -22,6 +22,8 @@ typedef enum {
     CHECK_READ_BACK,
     CHECK_LISTED_BACK,
     CHECK_STATUS_BACK,
+    CHECK_STATES_BACK,
+    CHECK_LENGTH,
     CHECKS
 } Check;
 
@@ -32,9 +34,11 @@ static const char *const check_names[CHECKS] = {
     "all other bytes of the buffer, around it and of the tables kept",
     "nothing changed on a refusal",
     "a record as documents 01 and 02 have it",
-    "read back: same marks, steps, keys and statuses, unseen from n on",
+    "read back: same n, marks, steps, keys and statuses",
     "listed back: nothing refused, totals of the status table",
-    "asked back: same statuses, unseen from n on",
+    "asked back: same statuses, 21 from n on",
+    "sent behind it: a step to n - 1 is accepted, one to n is refused with 5",
+    "fresh tables take 25 bytes and the digits of n, any tables no more than the header says",
 };
 
 static unsigned long refusals[14], written_bytes, longest;
@@ -91,6 +95,7 @@ static int hold(Lent *l)
         return 0;
     }
     check(CHECK_ANSWER, answer == 0);
+    check(CHECK_LENGTH, length <= 29 + 22 * l->n + 18 * l->steps[1]);
     check(CHECK_BYTES, memcmp(buffer.at + place_before[1], record, length) == 0);
     table_expect_free(&buffer, place_before[1], length);
     place_before[1] += length;
@@ -138,7 +143,7 @@ static int all_zero(const uint8_t *table, size_t from)
 static void read_back(const Lent *l)
 {
     reading_read(&reading, l->limit, (const uint8_t *)record, length, NULL);
-    check(CHECK_READ_BACK, !reading.refused && same_steps(l, &reading.history));
+    check(CHECK_READ_BACK, !reading.refused && reading.history.n == l->n && same_steps(l, &reading.history));
     check(CHECK_READ_BACK, memcmp(reading.marks, bytes(l, MARKS), l->n) == 0 && all_zero(reading.marks, l->n));
     check(CHECK_READ_BACK, memcmp(reading.status, bytes(l, STATUS), l->n) == 0 && all_zero(reading.status, l->n));
 }
@@ -160,11 +165,11 @@ static void list_back(const Lent *l, const uint8_t *written)
 static void ask_back(const Lent *l, const uint8_t *written, size_t states)
 {
     for (size_t i = 0; i < states && !failed; i++) {
-        size_t s = states < MOST_STATES ? below(one_in(8) ? MOST_STATES : l->n) : i;
+        size_t s = states < MOST_STATES ? one_in(4) ? l->n - below(2) : below(one_in(8) ? MOST_STATES : l->n) : i;
         call_begin();
         uint8_t answer = radvoinis_status(written, length, (uint32_t)s);
         call_end();
-        check(CHECK_STATUS_BACK, answer == (s < l->n ? bytes(l, STATUS)[s] : UNSEEN));
+        check(CHECK_STATUS_BACK, answer == (s < l->n ? bytes(l, STATUS)[s] : RADVOINIS_LINE_REFUSED + RADVOINIS_OUT_OF_RANGE));
     }
 }
 
@@ -187,17 +192,84 @@ static void group_sample(void)
 {
     static const Update updates[] = {{'E', 0, 1, 31}, {'T', 2, 0, 0}, {'E', 1, 0, 7}, {'C', 1, 0, 0}, {'T', 0, 0, 0},
                                      {'E', 0, 2, 0},  {'E', 0, 1, 31}, {'E', 0, 1, 8}, {'E', 0, 1, 32}, {'E', 0, 2, 0}, {'C', 2, 0, 0}};
-    static const char sample[] = "kind from to key\nT 0 - -\nT 2 - -\nE 0 1 31\nE 1 0 7\nE 0 2 0\nE 0 1 8\nC 1 - -\nC 2 - -\n";
+    static const char sample[] = "states\n3\nkind from to key\nT 0 - -\nT 2 - -\nE 0 1 31\nE 1 0 7\nE 0 2 0\nE 0 1 8\nC 1 - -\nC 2 - -\n";
     Lent *l = &lent_a;
     shown_history = NULL;
     lent_size(l, 3, 4, 0);
     lent_fresh(l);
-    check(CHECK_SAMPLE, right_record(l) == strlen(record) && strcmp(record, "kind from to key\n") == 0);
+    check(CHECK_SAMPLE, right_record(l) == strlen(record) && strcmp(record, "states\n3\nkind from to key\n") == 0);
     hold_buffers(l);
     for (size_t i = 0; i < sizeof updates / sizeof *updates; i++) lent_update(l, updates[i]);
     check(CHECK_SAMPLE, right_record(l) == strlen(record) && strcmp(record, sample) == 0);
     hold_buffers(l);
     hold_round_trip(l, 1, MOST_STATES);
+}
+
+// Two steps sent behind what was written, from a state that is not closed, to the last state and to the one behind it: the second line is
+// the only one that is refused. The listing program reads them, and the status call.
+static void send_behind(const Lent *l, size_t open)
+{
+    static char longer[RECORD_MOST + 64];
+    char refused[64];
+    size_t lines = 0;
+    for (size_t i = 0; i < length; i++) lines += record[i] == '\n';
+    memcpy(longer, buffer.at + place[1] - length, length);
+    size_t good = (size_t)sprintf(longer + length, "E %zu %zu 30\n", open, l->n - 1);
+    size_t bad = (size_t)sprintf(longer + length + good, "E %zu %zu 30\n", open, l->n);
+    size_t said = (size_t)sprintf(refused, "\n%zu refused 5\n", lines + 2);
+    Output output = program_run(LISTING, (const uint8_t *)longer, length + good, 0);
+    check(CHECK_STATES_BACK, output.ended && !memmem(output.bytes, output.length, "refused", 7));
+    output = program_run(LISTING, (const uint8_t *)longer, length + good + bad, 0);
+    const uint8_t *at = memmem(output.bytes, output.length, refused, said), *end = output.bytes + output.length;
+    check(CHECK_STATES_BACK, output.ended && at && !memmem(at + said, (size_t)(end - at) - said, "refused", 7));
+    call_begin();
+    uint8_t accepted = radvoinis_status((const uint8_t *)longer, length + good, (uint32_t)open);
+    uint8_t first = radvoinis_status((const uint8_t *)longer, length + good + bad, (uint32_t)open);
+    call_end();
+    check(CHECK_STATES_BACK, accepted < RADVOINIS_LINE_REFUSED && first == RADVOINIS_LINE_REFUSED + RADVOINIS_OUT_OF_RANGE);
+}
+
+// Updates over n states, after which the first state is not closed.
+static void send_few(Lent *l)
+{
+    size_t n = l->n, last = n - 1;
+    for (size_t i = 0; i < 12; i++) lent_update(l, (Update){'E', below(n), below(n), some_key()});
+    lent_update(l, (Update){'E', 0, last, MOST_KEY}), lent_update(l, (Update){'E', last, last / 2, 0});
+    for (size_t i = 0; i < 3; i++)
+        if (n > 1) lent_update(l, (Update){one_in(4) ? 'T' : 'C', 1 + below(n - 1), 0, 0});
+    if (n > 1 && one_in(2)) lent_update(l, (Update){one_in(2) ? 'T' : 'C', last, 0, 0});
+}
+
+// Every length of the buffer up to some bytes more than are needed.
+static void every_length(Lent *l)
+{
+    size_t needed = right_record(l), start = one_in(2) ? 0 : below(EXTRA / 2);
+    for (size_t room = needed > 400 ? needed - 4 : 0; room < needed + 4 && !failed; room++) hold_at(l, start + room, start);
+}
+
+// Each n from 1 to 64, and those beside a further digit and at the end: the head alone, then with lines behind it, and back.
+static void group_states(void)
+{
+    static const size_t more[] = {99, 100, 101, 255, 256, 999, 1000, 1001, 1023, 1024, 2046, 2047, 2048};
+    Lent *l = &lent_a;
+    shown_history = NULL;
+    for (size_t i = 0; i < 64 + sizeof more / sizeof *more && !failed; i++) {
+        size_t n = i < 64 ? i + 1 : more[i - 64];
+        progress(i, 64 + sizeof more / sizeof *more);
+        for (size_t k = 0; k < by_scale(1, 4, 20) && !failed; k++) {
+            lent_size(l, n, 20, 2);
+            lent_fresh(l);
+            check(CHECK_LENGTH, right_record(l) == (size_t)25 + (n < 10 ? 1 : n < 100 ? 2 : n < 1000 ? 3 : 4));
+            every_length(l);
+            hold_round_trip(l, 1, 8);
+            if (!failed) send_behind(l, 0);
+            send_few(l);
+            every_length(l);
+            hold_buffers(l);
+            hold_round_trip(l, 1, n <= 64 && k == 0 ? MOST_STATES : 8);
+            if (!failed) send_behind(l, 0);
+        }
+    }
 }
 
 static void send_and_write(Run *r, Update u)
@@ -354,6 +426,7 @@ static void group_places(void)
 
 static const Group groups[] = {
     {"a record as documents 01 and 02 have it", group_sample},
+    {"each n up to 64, and the greatest ones, and back", group_states},
     {"after each update of every short list, and back", group_lists},
     {"random runs, up to 12 states, and back", group_runs_small},
     {"random runs, up to 2,048 states and 8,192 steps, and back", group_runs_large},

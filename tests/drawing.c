@@ -57,6 +57,6 @@ size_t drawing_leads(const Reading *r, const uint8_t *bold)
         if (bold[p]) successor[u.first] = (uint16_t)p;
         from[p] = (uint16_t)u.first, to[p] = (uint16_t)u.second;
     }
-    Tables t = {.n = MOST_STATES, .steps = r->history.steps, .status = r->status, .from = from, .to = to, .successor = successor};
+    Tables t = {.n = r->history.n, .steps = r->history.steps, .status = r->status, .from = from, .to = to, .successor = successor};
     return fits_successors(&t);
 }

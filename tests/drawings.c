@@ -63,12 +63,12 @@ static void hold_record(size_t piece)
 }
 
 // ---- samples, in which there is one choice of successors; the fourth has terminal states, which are live, open and closed in their marks,
-// beside live states that are not terminal and refused marks; the last ones have steps that differ only in key, keys that are refused, and
-// steps that come again
+// beside live states that are not terminal and refused marks; the next ones have steps that differ only in key, keys that are refused, and
+// steps that come again; the last ones a count of states, which is 3, or is none, or stands before no names line
 
 typedef struct {
     Form form;
-    const char *lines, *picture;    // below the names line, and between opening and end
+    const char *lines, *picture;    // below the names line, or with the head where there is a count; and between opening and end
 } Sample;
 
 static const Sample samples[] = {
@@ -98,15 +98,25 @@ static const Sample samples[] = {
     {WITHOUT_KEYS, "E 0 1\nE 0 1\nE 1 0\nE 0 1\nE 1 0\nC 0 -\nE 0 1\n",
      "  0 [label=\"0 unknown\", fillcolor=\"#ffe08a\"];\n  1 [label=\"1 open\", fillcolor=\"#ffffff\"];\n"
      "  0 -> 1 [label=\"0\", style=bold];\n  1 -> 0 [label=\"0\"];\n"},
+    {WITH_KEYS, "states\n3\nkind from to key\n", ""},
+    {WITH_KEYS, "states\n3\nkind from to key\nE 0 1 9\nE 1 3 9\nE 3 1 9\nE 1 2 31\nT 3 - -\nC 2047 - -\nC 0 - -\nC 1 - -\n",
+     "  0 [label=\"0 unknown\", fillcolor=\"#ffe08a\"];\n  1 [label=\"1 unknown\", fillcolor=\"#ffe08a\"];\n"
+     "  2 [label=\"2 open\", fillcolor=\"#ffffff\"];\n  0 -> 1 [label=\"9\", style=bold];\n  1 -> 2 [label=\"31\", style=bold];\n"},
+    {WITHOUT_KEYS, "states\n0\nkind from to\nT 0 -\n", ""},
+    {WITHOUT_KEYS, "states\n3\nkind from\nT 0 -\n", ""},
 };
+
+// Whether a sample has its head among its lines.
+static int has_head(const Sample *s) { return *s->lines == 's'; }
 
 static void group_samples(void)
 {
     for (size_t i = 0; i < 2 * (sizeof samples / sizeof *samples) && !failed; i++) {
         char picture[1024];
         snprintf(picture, sizeof picture, "digraph verdicts {\n  rankdir=LR;\n  node [style=filled];\n%s}\n", samples[i / 2].picture);
-        start_record(samples[i / 2].form);
-        add("%s", samples[i / 2].lines);
+        form = samples[i / 2].form;
+        record_length = 0;
+        add("%s%s", has_head(&samples[i / 2]) ? "" : names_line[form], samples[i / 2].lines);
         record_length -= i % 2;
         hold_record(0);
         check(CHECK_SAMPLE, strcmp(picture, picture_text) == 0);
@@ -134,6 +144,8 @@ static void group_short(void)
         every_record(2, by_scale(2, 3, 4));
         start_record(f);
         every_record(3, by_scale(2, 2, 3));
+        start_counted(f, 2);    // 2 is no state
+        every_record(3, by_scale(1, 2, 3));
     }
 }
 
@@ -151,8 +163,7 @@ static Run explorer = {.lent = &lent, .send = send_line};
 
 static void hold_cut(void)
 {
-    size_t names = strlen(names_line[form]);
-    if (!one_in(4)) record_length = names + below(record_length - names + 1);
+    if (!one_in(4)) record_length = head_length + below(record_length - head_length + 1);
     hold_record(0);
 }
 
@@ -160,7 +171,7 @@ static void group_explored(void)
 {
     for (size_t i = 0; i < rounds(600) && !failed; i++) {
         progress(i, rounds(600));
-        start_record(some_form());
+        start_some(12);
         small_run(&explorer, i);
         hold_cut();
     }
@@ -170,9 +181,10 @@ static void group_explored(void)
 static void group_explored_large(void)
 {
     for (size_t i = 0; i < rounds(40) && !failed; i++) {
+        size_t n = one_in(3) ? 2048 - below(3) : 13 + below(300);
         progress(i, rounds(40));
-        start_record(some_form());
-        large_run(&explorer, i, one_in(3) ? 2048 - below(3) : 13 + below(300), 2048);
+        start_some(n);
+        large_run(&explorer, i, n, 2048);
         hold_cut();
     }
 }
@@ -181,7 +193,7 @@ static void group_explored_large(void)
 static void group_longest_way(void)
 {
     for (size_t how = 0; how < 4; how++) {
-        start_record((Form)(how / 2));
+        start_counted((Form)(how / 2), how % 2 ? 2048 : 0);
         for (size_t i = 0; i < 2048; i++) {
             size_t s = how % 2 ? 2047 - i : i;
             add_update((Update){'E', s, (s + 1) % 2048, MOST_KEY - i % 2});
@@ -208,12 +220,16 @@ static void group_valid(void) { valid_records(rounds(300), hold_record); }
 static void group_full_list(void) { full_records(rounds(20), hold_record); }
 static void group_repeated(void) { repeated_records(rounds(150), hold_record); }
 static void group_damaged(void) { damaged_records(rounds(600), hold_record); }
+static void group_damaged_heads(void) { damaged_heads(rounds(600), hold_record); }
 static void group_noise(void) { noisy_records(rounds(100), hold_record); }
 static void group_awkward(void) { awkward_records(hold_record); }
 static void group_beginnings(void) { beginnings(hold_record); }
+static void group_heads(void) { other_heads(hold_record); }
+static void group_counts(void) { each_count(by_scale(97, 11, 1), hold_record); }
 static void group_many_lines(void) { many_lines(by_scale(4, 12, 120), hold_record); }
 static void group_long_lines(void) { long_lines(hold_record); }
 static void group_pieces(void) { records_in_pieces(rounds(400), hold_record); }
+static void group_pieces_of_heads(void) { heads_in_pieces(hold_record); }
 static void group_cuts(void) { cut_lines(hold_record); }
 static void group_stopped(void) { stopped_inputs(DRAW, hold_picture); }
 static void group_failing_inputs(void) { failing_inputs(DRAW, hold_picture); }
@@ -237,12 +253,16 @@ static const Group groups[] = {
     {"records up to the step limit and past it", group_full_list},
     {"repeated steps, up to 65,535 lines of which 2,048 steps differ", group_repeated},
     {"damaged records", group_damaged},
+    {"damaged heads", group_damaged_heads},
     {"lines of random bytes", group_noise},
     {"lines at the edges of the grammar", group_awkward},
     {"beginnings, the empty record among them", group_beginnings},
+    {"lines of the head missing, twice, late, long, and no counts", group_heads},
+    {"counts up to 2,100", group_counts},
     {"65,534 to 65,537 lines", group_many_lines},
     {"lines of up to ten million bytes", group_long_lines},
     {"records that come in pieces", group_pieces},
+    {"heads that come in pieces of every length", group_pieces_of_heads},
     {"lines across the cuts of large reads", group_cuts},
 };
 

@@ -21,18 +21,23 @@ static Output run(Program p, Source from, Target to, const char *said)
     return output;
 }
 
-// A 10 and a 12: "Reading stops."
+// A 10, a 17 and a 12: "Reading stops."
 void stopped_inputs(Program p, void (*hold)(Output output))
 {
-    static const char *const first[] = {"y", "", "kind from to ", "T 0 -", "kind from to ke", "kind from to key "};
+    static const struct {
+        const char *before, *line;    // behind what may stand, the line that ends the reading
+    } first[] = {{"", "y"}, {"", ""}, {"", "kind from to "}, {"", "T 0 -"}, {"", "kind from to ke"}, {"", "kind from to key "},
+                 {"", "states "}, {"states\n", "0"}, {"states\n", ""}, {"states\n", "2049"}, {"states\n", "09"}, {"states\n", "states"},
+                 {"states\n", "kind from to"}, {"states\n9\n", "9"}, {"states\n9\n", ""}, {"states\n9\n", "kind from to k"}};
     static const char *const last[] = {"T 0 -", "", "E 1 2 "};
-    for (size_t i = 0; i < 12 && !failed; i++) {
+    for (size_t i = 0; i < 2 * (sizeof first / sizeof *first) && !failed; i++) {
         record_length = 0;
-        for (size_t lines = i % 2 ? 200000 : 1; lines > 0; lines--) add("%s\n", first[i / 2]);
+        add("%s", first[i / 2].before);
+        for (size_t lines = i % 2 ? 200000 : 1; lines > 0; lines--) add("%s\n", first[i / 2].line);
         hold(run(p, FROM_HELD_PIPE, TO_MEMORY, ""));
     }
-    for (size_t i = 0; i < 6 && !failed; i++) {
-        lines_record(MOST_LINES + 1, TERMINALS, last[i / 2], 1);
+    for (size_t i = 0; i < 12 && !failed; i++) {
+        lines_record(i / 6 ? 8 : 0, MOST_LINES + 1, TERMINALS, last[i / 2 % 3], 1);
         if (i % 2) add_run('\n', 200000);
         hold(run(p, FROM_HELD_PIPE, TO_MEMORY, ""));
     }
@@ -43,7 +48,10 @@ void failing_inputs(Program p, void (*hold)(Output output))
 {
     static const char *const before[] = {"", "kind from", "kind from to", "kind from to\n", "kind from to\nE 0 1\nC 0 -\nC 1 -",
                                          "kind from to\nE 0 1\nC 0 -\nC 1 -\n", "kind from to ke", "kind from to key", "kind from to key\n",
-                                         "kind from to key\nE 0 1 7\nC 0 - -\nC 1 - -", "kind from to key\nE 0 1 7\nC 0 - -\nC 1 - -\n"};
+                                         "kind from to key\nE 0 1 7\nC 0 - -\nC 1 - -", "kind from to key\nE 0 1 7\nC 0 - -\nC 1 - -\n",
+                                         "state", "states", "states\n", "states\n2", "states\n2\n", "states\n2\nkind from to ke",
+                                         "states\n2\nkind from to key\nE 0 1 7\nC 0 - -\nC 1 - -",
+                                         "states\n2\nkind from to\nE 0 1\nC 0 -\nC 1 -\n"};
     record_length = 0;
     hold(run(p, FROM_FOLDER, TO_MEMORY, cannot_read[p]));
     hold(run(p, FROM_NOTHING, TO_MEMORY, cannot_read[p]));
@@ -51,19 +59,23 @@ void failing_inputs(Program p, void (*hold)(Output output))
         const char *text = before[i / 2];
         record_length = 0;
         add("%s", text);
-        if (i % 2 && strchr(text, '\n')) add_run('x', 200000), add(strstr(text, "key") ? "\nE 2 3 8\nC 2 - -" : "\nE 2 3\nC 2 -");
+        int keys = strstr(text, "key\n") != NULL;
+        if (i % 2 && (keys || strstr(text, "to\n"))) add_run('x', 200000), add(keys ? "\nE 2 3 8\nC 2 - -" : "\nE 2 3\nC 2 -");
         hold(run(p, FROM_FAILING_SOCKET, TO_MEMORY, cannot_read[p]));
     }
-    record_length = 0;
-    add("kind from to \n");
-    hold(run(p, FROM_FAILING_SOCKET, TO_MEMORY, ""));
+    for (size_t i = 0; i < 3 && !failed; i++) {
+        static const char *const stopped[] = {"kind from to \n", "states\n2 \n", "states\n2\nkind from to \n"};
+        record_length = 0;
+        add("%s", stopped[i]);
+        hold(run(p, FROM_FAILING_SOCKET, TO_MEMORY, ""));
+    }
 }
 
 // A short text and a long one, which the listing program writes in several parts.
 void failing_outputs(Program p)
 {
     for (size_t i = 0; i < 4 && !failed; i++) {
-        start_record(some_form());
+        start_some(2001);
         for (size_t s = 0; s < (i / 2 ? 2000 : 2); s++) add_update((Update){'E', s, s + 1, s % 32}), add_run('\n', 8);
         run(p, FROM_FILE, i % 2 ? TO_FULL_DEVICE : TO_NOTHING, cannot_write[p]);
     }
@@ -77,7 +89,7 @@ static char *usage;
 
 static Output run_with(Program p, const char *const *arguments, Source from, Target to)
 {
-    start_record(some_form());
+    start_some(2);
     add_lines("E 0 1\nT 1 -\nC 0 -\n");
     Output output = program_run_with(p, arguments, from, record, from == FROM_HELD_PIPE ? 0 : record_length, PIECE_MOST, to);
     check(CHECK_ENDED, output.ended);

@@ -42,12 +42,27 @@ Form form;
 
 Form some_form(void) { return one_in(3) ? WITHOUT_KEYS : WITH_KEYS; }
 
-void start_record(Form f)
+size_t some_count(size_t states)
+{
+    if (one_in(2)) return 0;
+    if (one_in(8)) return 1 + below(MOST_STATES);
+    return one_in(3) ? MOST_STATES : states + below(one_in(2) ? 1 : MOST_STATES + 1 - states);
+}
+
+size_t head_length, head_lines;
+
+void start_counted(Form f, size_t count)
 {
     form = f;
     record_length = 0;
+    if (count) add("states\n%zu\n", count);
     add("%s", names_line[f]);
+    head_length = record_length, head_lines = count ? 3 : 1;
 }
+
+void start_record(Form f) { start_counted(f, 0); }
+
+void start_some(size_t states) { start_counted(some_form(), some_count(states)); }
 
 void add_update(Update u)
 {
@@ -88,7 +103,7 @@ static void add_explored(size_t lines, size_t states, int careful)
     random_history(&h, states, 2048, lines, careful);
     for (size_t i = 0; i < h.count; i++) {
         Update u = h.accepted[i];
-        if (far && one_in(40)) *(one_in(2) ? &u.first : &u.second) = one_in(2) ? 2046 + below(4) : below(65536);
+        if (far && one_in(40)) *(one_in(2) ? &u.first : &u.second) = one_in(2) ? 2046 + below(4) : below(one_in(2) ? states + 4 : 65536);
         if (far && one_in(40)) u.key = one_in(2) ? MOST_KEY - 1 + below(4) : below(65540);
         add_update(u);
     }
@@ -97,8 +112,9 @@ static void add_explored(size_t lines, size_t states, int careful)
 static void random_record(void)
 {
     size_t lines = one_in(20) ? below(3000) : below(one_in(3) ? 200 : 30), careful = one_in(2);
-    start_record(some_form());
-    add_explored(lines, one_in(4) ? 2048 : 1 + below(1 + lines / 2), (int)careful);
+    size_t states = one_in(4) ? 2048 : 1 + below(1 + lines / 2);
+    start_some(states);
+    add_explored(lines, states, (int)careful);
     if (one_in(3)) record_length--;
 }
 
@@ -116,7 +132,7 @@ void full_records(size_t count, void (*hold)(size_t piece))
 {
     for (size_t i = 0; i < 5 && !failed; i++) {
         size_t steps = i < 4 ? 2047 + i : 2049;
-        start_record(i < 4 ? WITH_KEYS : WITHOUT_KEYS);
+        start_counted(i < 4 ? WITH_KEYS : WITHOUT_KEYS, i % 2 ? 2048 : 0);
         for (size_t p = 0; p < steps; p++) add_update((Update){'E', p % 2048, (p + (p < 2048 ? 1 : 2)) % 2048, some_key()});
         add_update((Update){'E', 0, 1, MOST_KEY + 1});
         for (size_t s = 0; s < 2047; s++) add_update((Update){'C', s, 0, 0});
@@ -124,7 +140,7 @@ void full_records(size_t count, void (*hold)(size_t piece))
         hold(0);
     }
     for (size_t i = 0; i < count && !failed; i++) {
-        start_record(some_form());
+        start_counted(some_form(), one_in(2) ? 2048 - below(2) : 0);
         add_explored(1000 + below(8000), 2048, one_in(2));
         hold(0);
     }
@@ -175,16 +191,18 @@ void repeated_records(size_t count, void (*hold)(size_t piece))
     static const struct {
         Steps shape;
         size_t lines;
-    } long_ones[] = {{RING, 2049}, {CROWD, 8193}, {CROWD, 2049}, {RING, MOST_LINES - 2056}};
+    } long_ones[] = {{RING, 2049}, {CROWD, 8193}, {CROWD, 2049}, {RING, 0}};    // 0 for as many as a record may have
     for (size_t i = 0; i < 4 * (sizeof long_ones / sizeof *long_ones) && !failed; i += by_scale(5, 1, 1)) {
-        start_record((Form)(i % 2));
-        add_repeated(long_ones[i / 4].shape, long_ones[i / 4].lines, (i / 2 + i / 4) % 2);
+        start_counted((Form)(i % 2), i / 2 % 2 ? 2048 : 0);
+        size_t lines = long_ones[i / 4].lines, most = MOST_LINES - 2055 - head_lines;
+        add_repeated(long_ones[i / 4].shape, lines ? lines : most, (i / 2 + i / 4) % 2);
         hold(0);
     }
     for (size_t i = 0; i < count && !failed; i++) {
+        size_t states = 1 + below(one_in(4) ? 60 : 4);
         progress(i, count);
-        start_record(some_form());
-        add_presses(below(one_in(8) ? 3000 : 80), 1 + below(one_in(4) ? 60 : 4), 1 + below(one_in(2) ? 3 : MOST_KEY + 1));
+        start_some(states);
+        add_presses(below(one_in(8) ? 3000 : 80), states, 1 + below(one_in(2) ? 3 : MOST_KEY + 1));
         hold(0);
     }
 }
@@ -222,12 +240,12 @@ static void insert_zeros(size_t at)
     for (size_t i = 1 + below(12); i > 0; i--) insert_byte(at, '0');
 }
 
-// One damage from a place on.
-static void damage(size_t first)
+// One damage between two places, or from the first to the end.
+static void damage(size_t first, size_t end)
 {
-    if (record_length <= first) return;
-    size_t left = record_length - first, at = first + below(left), how = below(9);
-    left = record_length - at;
+    if (end > record_length) end = record_length;
+    if (end <= first) return;
+    size_t at = first + below(end - first), left = record_length - at, how = below(9);
     if (how < 3) record[at] = some_byte();
     else if (how == 3) insert_byte(at, some_byte());
     else if (how == 4) remove_bytes(at, 1);
@@ -242,7 +260,33 @@ void damaged_records(size_t count, void (*hold)(size_t piece))
     for (size_t i = 0; i < count && !failed; i++) {
         progress(i, count);
         random_record();
-        for (size_t k = 1 + below(one_in(4) ? 20 : 3); k > 0; k--) damage(i % 8 ? strlen(names_line[form]) : 0);
+        for (size_t k = 1 + below(one_in(4) ? 20 : 3); k > 0; k--) damage(i % 8 ? head_length : 0, record_length);
+        hold(0);
+    }
+}
+
+// Lines of the head, exchanged: any of them where it should be, or in the place of another.
+static void add_head_line(size_t count)
+{
+    size_t which = below(4);
+    if (which == 0) add("states\n");
+    else if (which == 1) add("%zu\n", count);
+    else add("%s", names_line[form]);
+}
+
+// A head with up to three damages; or lines of one in any order, any number of times.
+void damaged_heads(size_t count, void (*hold)(size_t piece))
+{
+    for (size_t i = 0; i < count && !failed; i++) {
+        size_t states = 1 + below(one_in(4) ? 2048 : 12);
+        progress(i, count);
+        start_counted(some_form(), states);
+        if (one_in(4))
+            for (record_length = 0; record_length < 12 || one_in(2);) add_head_line(states);
+        size_t end = record_length;
+        add_explored(below(12), states, 1);
+        for (size_t k = one_in(8) ? 0 : 1 + below(3); k > 0; k--) damage(0, end);
+        if (record_length > 0 && one_in(4)) record_length--;
         hold(0);
     }
 }
@@ -251,7 +295,7 @@ void noisy_records(size_t count, void (*hold)(size_t piece))
 {
     for (size_t i = 0; i < count && !failed; i++) {
         progress(i, count);
-        start_record(some_form());
+        start_some(5);
         if (one_in(10)) record_length = below(record_length + 1);
         for (size_t k = below(4000); k > 0; k--) {
             uint8_t byte = some_byte();
@@ -318,11 +362,11 @@ static void awkward_in(Form f, void (*hold)(size_t piece))
         if (i % 2) add("\n"), add_lines("T 1 -\n");
         hold(0);
     }
-    for (size_t last = 0; last < 2; last++) {
-        start_record(f);
+    for (size_t last = 0; last < 4; last++) {
+        start_counted(f, last < 2 ? 0 : last == 2 ? 2048 : 100);
         add_lines("C 2 -\n");
         for (size_t i = 0; i < awkward_lines(); i++) add_awkward(i), add("\n"), add_update((Update){'E', i, i + 1, some_key()});
-        record_length -= last;
+        record_length -= last % 2;
         hold(0);
     }
 }
@@ -350,25 +394,139 @@ static const char *const other_beginnings[] = {
 
 enum { OTHER_BEGINNINGS = sizeof other_beginnings / sizeof *other_beginnings };
 
+// A record, and every beginning of it.
+static void hold_beginnings(void (*hold)(size_t piece))
+{
+    for (; record_length > 0 && !failed; record_length--) hold(record_length % 2);
+}
+
+// Texts that are no heads, or not the usual ones; with every beginning of each that is shorter by so many bytes, twice as many, and so on.
+static void hold_texts(const char *const *texts, size_t count, size_t by, void (*hold)(size_t piece))
+{
+    for (size_t i = 0; i < count && !failed; i++) {
+        progress(i, count);
+        record_length = 0;
+        add("%s", texts[i]);
+        for (; record_length > 0 && !failed; record_length -= record_length < by ? record_length : by) hold(0);
+    }
+}
+
 void beginnings(void (*hold)(size_t piece))
 {
     for (Form f = 0; f < FORMS; f++) {
         start_record(f);
         add_lines("T 0 -\nE 1 0\nC 1 -\n");
-        for (; record_length > 0 && !failed; record_length--) hold(record_length % 2);
+        hold_beginnings(hold);
+        start_counted(f, 2);
+        add_lines("T 0 -\nE 1 0\nE 0 2\nC 1 -\n");
+        hold_beginnings(hold);
     }
     hold(0), hold(1);
-    for (size_t i = 0; i < OTHER_BEGINNINGS && !failed; i++) {
-        record_length = 0;
-        add("%s", other_beginnings[i]);
-        for (; record_length > 0 && !failed; record_length--) hold(0);
-    }
-    for (size_t i = 0; i < 2 * 20 && !failed; i++) {
-        start_record((Form)(i % 2));
+    hold_texts(other_beginnings, OTHER_BEGINNINGS, 1, hold);
+    for (size_t i = 0; i < 4 * 20 && !failed; i++) {
+        start_counted((Form)(i % 2), i / 2 % 2 ? 2 : 0);
         add_lines("E 0 1\nT 1 -\n");
-        record[i / 2] = 0;
+        record[i / 4] = 0;
         hold(0);
     }
+}
+
+// ---- a count before the names line
+
+static const char *const heads[] = {
+    "states\n9\nkind from to\nT 8 -\nT 9 -\n", "states\n9\nkind from to key\nT 8 - -\nT 9 - -\nE 8 9 31\nE 9 8 32\n",
+    "states\n2048\nkind from to\nT 2047 -\nT 2048 -\n", "states\n1\nkind from to key\nE 0 0 7\nE 0 1 7\nC 0 - -\n",
+    "states\nkind from to\nT 0 -\n", "states\nkind from to\n9\nT 0 -\n", "states\nT 0 -\n", "states\n\nkind from to\nT 0 -\n",
+    "states\n\n9\nkind from to\n", "\nstates\n9\nkind from to\n", "states\n9\n\nkind from to\n", "states\n9\nT 0 -\n",
+    "states\n9\nT 0 -\nkind from to\n", "states\n9\n9\nkind from to\n", "states\n9\n10\nkind from to\n",
+    "states\nstates\n9\nkind from to\n", "states\nstates\nkind from to\n", "states\n9\nstates\n9\nkind from to\n",
+    "states\n9\nstates\nkind from to\n", "states\n9\nkind from to\nstates\n5\nT 5 -\nT 9 -\n",
+    "states\n9\nkind from to key\nstates\n5\nT 5 - -\nT 9 - -\n", "states\n9\nkind from to\nkind from to\nT 0 -\n",
+    "states\n9\nkind from to\nkind from to key\nT 0 - -\nT 1 -\n", "states\n9\nkind from to key\nkind from to\nT 0 -\nT 1 - -\n",
+    "kind from to\nstates\n9\nT 8 -\nT 9 -\n", "kind from to key\nstates\n9\nT 8 - -\nT 9 - -\n",
+    "kind from to\nT 8 -\nstates\n9\nT 9 -\n", "kind from to\n9\nT 9 -\n", "9\nkind from to\nT 0 -\n", "9\nstates\nkind from to\n",
+    "states\r\n9\r\nkind from to\r\nT 0 -\r\n", "states\r\n9\nkind from to\n", "states\n9\r\nkind from to\n",
+    "states\n9\nkind from to\r\nT 0 -\n", "states\r9\rkind from to\r", "states\n\r\nkind from to\n", "\rstates\n9\nkind from to\n",
+    "states\n\r9\nkind from to\n", "states\n9\n\rkind from to\n", "states \n9\nkind from to\n", " states\n9\nkind from to\n",
+    "States\n9\nkind from to\n", "STATES\n9\nkind from to\n", "state\n9\nkind from to\n", "statess\n9\nkind from to\n",
+    "tates\n9\nkind from to\n", "states:\n9\nkind from to\n", "states 9\nkind from to\n", "states9\nkind from to\n",
+    "states,9\nkind from to\n", "states 9 kind from to\n", "states\t\n9\nkind from to\n", "\xef\xbb\xbfstates\n9\nkind from to\n",
+    "states\n\xef\xbb\xbf" "9\nkind from to\n", "states\n9 kind from to\n", "states\n9\nkind from to \nT 0 -\n",
+    "states\n9\nkind from to ke\nT 0 - -\n", "states\n9\nkind from\nT 0 -\n", "states\n9\nKind from to\nT 0 -\n",
+    "states\n9\nE 0 1\n", "kind from to states\n9\n", "states kind from to\n", "n\n9\nkind from to\n", "states\nnine\nkind from to\n",
+    "9\n", "9 states\nkind from to\n", "states states\n9\nkind from to\n",
+};
+
+// What is no count, but for the first ones.
+static const char *const counts[] = {
+    "1", "9", "10", "99", "100", "999", "1000", "1999", "2000", "2047", "2048", "2049", "2050", "2147", "2148", "2058", "3048", "9999",
+    "10000", "20480", "20470", "32768", "65535", "65536", "65537", "65545", "67583", "67584", "131073", "2147483648", "2147483657",
+    "4294967295", "4294967296", "4294967297", "4294967305", "4294969344", "9223372036854775807", "9223372036854775817",
+    "18446744073709551615", "18446744073709551616", "18446744073709551617", "18446744073709551625", "18446744073709553664",
+    "340282366920938463463374607431768211465", "0", "00", "000", "0000", "01", "09", "001", "009", "0009", "00009", "02048", "002048",
+    "0000000000000009", "00000000000000009", "000000000000000009", "0000000000002048", "9000000000000000", "90000000000000000", "+9", "-9",
+    "-0", "+0", "-1", "+2048", "--9", "- 9", " 9", "  9", "9 ", "9  ", " 9 ", "9               ", "9                ", "\t9", "9\t", "9\r",
+    "\r9", "9\v", "9\f", "9 9", "9 -", "9 - -", "- -", "9,", "9.", "9.0", "0.9", ".9", "9e0", "1e3", "1E3", "0x9", "0b1", "9x", "x9", "9u",
+    "9L", "2,048", "2.048", "2 048", "2'048", "2_048", "20 48", "x", "", " ", "-", "*", "#9", "\"9\"", "(9)", "9\xc2\xa0", "\xc2\xa0" "9",
+    "\xd9\xa9", "\xef\xbc\x99", "\xc2\xb9", "IX", "nine", "NaN", "inf", "/", ":", "9/", "9:", "/9", ":9", "1/1", "\x7f", "\xff", "\xb9",
+    "states", "states 9", "kind from to", "kind from to key", "T 9 -", "E 0 9", "n", "all", "end open 9", "2048 states", "9\x1a", "9\x04",
+};
+
+enum { HEADS = sizeof heads / sizeof *heads, COUNTS = sizeof counts / sizeof *counts };
+
+// A line that is to be the count, and lines around it.
+static void hold_count(Form f, const char *count, size_t bytes, size_t near, void (*hold)(size_t piece))
+{
+    size_t last = near ? near - 1 : 0;
+    form = f;
+    record_length = 0;
+    add("states\n"), add_bytes(count, bytes), add("\n%s", names_line[f]);
+    add_update((Update){'E', last, last, some_key()}), add_update((Update){'E', last, near, some_key()});
+    add_update((Update){'T', near, 0, 0}), add_update((Update){'C', last, 0, 0}), add_update((Update){'C', near + 1, 0, 0});
+    hold(0);
+}
+
+void each_count(size_t step, void (*hold)(size_t piece))
+{
+    char text[16];
+    for (size_t count = 0; count <= 2100 && !failed; count += step) {
+        progress(count, 2100);
+        hold_count((Form)(count / step % 2), text, (size_t)sprintf(text, "%zu", count), count, hold);
+    }
+    for (size_t count = 2040; count <= 2056 && !failed; count++)    // and all of these
+        hold_count((Form)(count % 2), text, (size_t)sprintf(text, "%zu", count), count, hold);
+}
+
+// Bytes behind the word or the count, or in the place of one, up to many more than a line may have.
+static void long_heads(void (*hold)(size_t piece))
+{
+    static const char *const before[] = {"states", "", "states\n", "states\n9", "states\n1", "states\n9\nkind from to", "states\n9\n"};
+    static const uint8_t of[] = {'0', ' ', 's', '1', 0, '\r', 255};
+    size_t lengths[24 + 4] = {255, 256, 65536, LONGEST};
+    for (size_t i = 0; i < 24; i++) lengths[4 + i] = i + 1;
+    for (size_t i = 0; i < 7 * 28 && !failed; i++) {
+        size_t bytes = lengths[i / 7];
+        for (size_t k = 0; k < by_scale(1, bytes > 65536 ? 1 : 7, 7) && !failed; k++) {
+            progress(i, 7 * 28);
+            record_length = 0, form = WITHOUT_KEYS;
+            add("%s", before[i % 7]), add_run(of[(i + k) % 7], bytes), add("\n9\nkind from to\nT 8 -\n");
+            hold(0);
+        }
+    }
+}
+
+// Texts; then each count that is none, with lines behind it, at the end of the record, and with its newline there.
+void other_heads(void (*hold)(size_t piece))
+{
+    hold_texts(heads, HEADS, by_scale(7, 1, 1), hold);
+    for (size_t i = 0; i < COUNTS && !failed; i++) {
+        progress(i, COUNTS);
+        hold_count((Form)(i % 2), counts[i], strlen(counts[i]), 9, hold);
+        record_length = 0;
+        add("states\n%s\n", counts[i]);
+        hold(0), record_length--, hold(0);
+    }
+    long_heads(hold);
 }
 
 // ---- many lines, and long ones
@@ -382,10 +540,10 @@ static void add_shape(Shape shape)
     else add_explored(1, 1 + below(2048), 0);
 }
 
-void lines_record(size_t lines, Shape shape, const char *last, size_t newline)
+void lines_record(size_t count, size_t lines, Shape shape, const char *last, size_t newline)
 {
-    start_record(some_form());
-    for (size_t i = 2; i < lines; i++) add_shape(shape);
+    start_counted(some_form(), count);
+    for (size_t i = head_lines + 1; i < lines; i++) add_shape(shape);
     add_lines(last);
     if (newline) add("\n");
 }
@@ -393,11 +551,12 @@ void lines_record(size_t lines, Shape shape, const char *last, size_t newline)
 void many_lines(size_t count, void (*hold)(size_t piece))
 {
     static const char *const last[] = {"T 0 -", "", "E 1 2 ", "T 1 -x 2 3 4 5 6 7 8 9"};
-    for (size_t i = 0; i < 16 + count && !failed; i++) {
+    size_t marks = by_scale(24, 32, 32);
+    for (size_t i = 0; i < marks + count && !failed; i++) {
         size_t lines = MOST_LINES - 1 + i % 4;
-        progress(i, 16 + count);
-        if (i < 16) lines_record(lines, TERMINALS, last[i / 4], i / 4 == 1 || one_in(2));
-        else lines_record(lines, (Shape)(1 + i / 4 % 3), last[below(4)], one_in(2));
+        progress(i, marks + count);
+        if (i < marks) lines_record(i / 16 ? 8 : 0, lines, TERMINALS, last[i / 4 % 4], i / 4 % 4 == 1 || one_in(2));
+        else lines_record(some_count(8), lines, (Shape)(1 + i / 4 % 3), last[below(4)], one_in(2));
         hold(0);
     }
 }
@@ -408,7 +567,7 @@ void long_lines(void (*hold)(size_t piece))
     static const uint8_t of[] = {'0', ' ', 0, '\r', 'E', 255};
     for (size_t i = 0; i < 12 && !failed; i++) {
         progress(i, 12);
-        start_record(some_form());
+        start_some(4);
         if (i < 3) record_length = 0;
         if (i >= 3) add_lines("E 0 1\n");
         if (i >= 6) add_lines("T 1 -\n");
@@ -419,7 +578,7 @@ void long_lines(void (*hold)(size_t piece))
     }
     for (size_t i = 2; i < 2 * 80 && !failed; i++) {
         size_t bytes = i / 2;
-        start_record((Form)(i % 2));
+        start_counted((Form)(i % 2), one_in(2) ? 3 : 0);
         add("E 0 "), add_run('0', bytes), add("\n"), add_lines("T 0 -\n"), add_run('1', bytes), add("\n");
         add("E 1 2 "), add_run('3', bytes), add("\n"), add_run(' ', bytes);
         hold(0);
@@ -434,9 +593,25 @@ void records_in_pieces(size_t count, void (*hold)(size_t piece))
         size_t pieces[] = {1, 2, 3, 1 + below(20), 15, 16, 17, 1 + below(100), 1 + below(PIECE_MOST), PIECE_MOST};
         progress(i, count);
         random_record();
-        for (size_t k = below(4); k > 0; k--) damage(0);
+        for (size_t k = below(4); k > 0; k--) damage(0, record_length);
         size_t piece = pieces[below(10)], least = record_length / 200;
         hold(piece > least ? piece : 1 + least);
+    }
+}
+
+// Heads with lines behind them, that end early, and that are refused, each cut by every length.
+void heads_in_pieces(void (*hold)(size_t piece))
+{
+    static const char *const texts[] = {
+        "states\n9\nkind from to\nT 8 -\nT 9 -", "states\n2048\nkind from to key\nE 2047 0 31\nE 2048 0 31\nC 0 - -\nC 2047 - -\n",
+        "states\n12\nkind from to keys\nT 0 - -\n", "states\n2049\nkind from to\nT 0 -\n", "states\n12 \nkind from to\nT 0 -\n",
+        "states\n12\n", "states\n12", "states\n", "states", "states \n12\nkind from to\n", "states\n12\nstates\n12\nkind from to\n",
+        "kind from to\nstates\n12\nT 11 -\nT 12 -\n",
+    };
+    for (size_t i = 0; i < sizeof texts / sizeof *texts && !failed; i++) {
+        record_length = 0;
+        add("%s", texts[i]);
+        for (size_t piece = 1; piece <= record_length && !failed; piece += by_scale(3, 1, 1)) hold(piece);
     }
 }
 
@@ -444,7 +619,7 @@ void records_in_pieces(size_t count, void (*hold)(size_t piece))
 void cut_lines(void (*hold)(size_t piece))
 {
     for (size_t i = 0; i < 2 * 75 && !failed; i++) {
-        start_record((Form)(i % 2));
+        start_counted((Form)(i % 2), i / 2 % 2 ? 346 : 0);
         for (size_t cut = 65536; cut < 4 * 65536; cut += 65536) {
             add_run('x', cut - record_length - 70 + i / 2);
             add("\n"), add_update((Update){'E', cut / 65536, 345, some_key()});

@@ -28,6 +28,8 @@ int main(void)
     if (radvoinis_check(&t) != 1) return 8;
     if (radvoinis_save(&t, record, sizeof record, &end) != 0) return 9;
     if (radvoinis_status(record, end, 1) != RADVOINIS_DEAD) return 10;
+    if (radvoinis_status(record, end, 3) != RADVOINIS_LINE_REFUSED + RADVOINIS_OUT_OF_RANGE) return 14;
+    if (radvoinis_status(record, 7, 3) != RADVOINIS_LINE_REFUSED + RADVOINIS_BAD_COUNT) return 15;
     printf("%s\n", RADVOINIS_VERSION);
     free(memory);
     return 0;

@@ -2,7 +2,7 @@
 #include "reading.h"
 #include <string.h>
 
-static const char plain_names[] = "kind from to", keyed_names[] = "kind from to key";
+static const char states[] = "states", plain_names[] = "kind from to", keyed_names[] = "kind from to key";
 
 // ---- a line
 
@@ -26,9 +26,22 @@ static Update update_of(const uint8_t *line, size_t length, int keyed)
     return (Update){(uint8_t)text[0], first, second, key};
 }
 
-static int is_line(const char *names, const uint8_t *line, size_t length)
+static int is_line(const char *right, const uint8_t *line, size_t length)
 {
-    return length == strlen(names) && memcmp(line, names, length) == 0;
+    return length == strlen(right) && memcmp(line, right, length) == 0;
+}
+
+// The count of a line, 1 to 2,048, or 0 for one that is none: a line is a count where it is, byte for byte, that count written out.
+static size_t count_of(const uint8_t *line, size_t length)
+{
+    char text[5] = {0}, written[32];
+    unsigned long count = 0;
+    if (length > 4) return 0;
+    memcpy(text, line, length);
+    sscanf(text, "%4lu", &count);
+    if (count == 0 || count > MOST_STATES) return 0;
+    sprintf(written, "%lu", count);
+    return is_line(written, line, length) ? count : 0;
 }
 
 // ---- what comes of it
@@ -59,12 +72,45 @@ static void refuse(Reading *r, size_t number, int refusal, FILE *listing)
     if (listing) fprintf(listing, "%zu refused %d\n", number, refusal);
 }
 
-static void print_totals(FILE *listing, const uint8_t *status)
+static void print_totals(FILE *listing, size_t n, const uint8_t *status)
 {
     static const char *const words[] = {"unseen", "open", "unknown", "live", "dead"};
     size_t totals[5] = {0};
-    for (size_t s = 0; s < MOST_STATES; s++) totals[status[s]]++;
+    for (size_t s = 0; s < n; s++) totals[status[s]]++;
     for (int i = OPEN; i <= DEAD; i++) fprintf(listing, "end %s %zu\n", words[i], totals[i]);
+}
+
+// ---- the head
+
+// "A record may now begin with a line `states` and a line with the count, and then the names line". "A record without it means 2,048."
+static int read_states(Reading *r)
+{
+    r->names = 3;
+    return 1;
+}
+
+// A second line that is no such number "gets 17 as line 2, before the names line, and reading stops".
+static int read_count(Reading *r, const uint8_t *line, size_t length, FILE *listing)
+{
+    size_t count = count_of(line, length);
+    if (!count) refuse(r, 2, 17, listing);
+    else r->history.n = count;
+    return count > 0;
+}
+
+static int read_names(Reading *r, const uint8_t *line, size_t length, FILE *listing)
+{
+    r->keyed = is_line(keyed_names, line, length);
+    int exact = r->keyed || is_line(plain_names, line, length);
+    if (!exact) refuse(r, r->lines, 10, listing);
+    return exact;
+}
+
+// The line of the head that a record ends without: its first, which is "its names line", its count, or the names line behind a count.
+static void refuse_missing(Reading *r, FILE *listing)
+{
+    if (r->refused || r->lines >= r->names) return;
+    refuse(r, r->lines + 1, r->lines == 1 ? 17 : 10, listing);
 }
 
 // ---- the record
@@ -73,19 +119,16 @@ void reading_start(Reading *r, size_t limit, FILE *listing)
 {
     history_start(&r->history, MOST_STATES, limit);
     memset(r->marks, 0, MOST_STATES), memset(r->status, 0, MOST_STATES);
-    r->refused = 0, r->lines = 0, r->keyed = 0;
+    r->refused = 0, r->lines = 0, r->names = 1, r->keyed = 0;
     if (listing) fprintf(listing, "line verdict number\n");
 }
 
 int reading_line(Reading *r, const uint8_t *line, size_t length, FILE *listing)
 {
     size_t number = ++r->lines;
-    if (number == 1) {
-        r->keyed = is_line(keyed_names, line, length);
-        int exact = r->keyed || is_line(plain_names, line, length);
-        if (!exact) refuse(r, number, 10, listing);
-        return exact;
-    }
+    if (number == 1 && is_line(states, line, length)) return read_states(r);
+    if (number == 2 && r->names == 3) return read_count(r, line, length, listing);
+    if (number == r->names) return read_names(r, line, length, listing);
     if (number == 65536) {
         refuse(r, number, 12, listing);
         return 0;
@@ -99,8 +142,8 @@ int reading_line(Reading *r, const uint8_t *line, size_t length, FILE *listing)
 
 void reading_end(Reading *r, FILE *listing)
 {
-    if (r->lines == 0) refuse(r, 1, 10, listing);    // "Empty input lacks its names line."
-    if (listing) print_totals(listing, r->status);
+    refuse_missing(r, listing);
+    if (listing) print_totals(listing, r->history.n, r->status);
 }
 
 void reading_read(Reading *r, size_t limit, const uint8_t *record, size_t length, FILE *listing)
@@ -117,9 +160,11 @@ void reading_read(Reading *r, size_t limit, const uint8_t *record, size_t length
     reading_end(r, listing);
 }
 
-// "A state of 2,048 or more counts as refusal 5 and is tested first. A refusal answers 16 plus its number."
+// "The C call tests the count first, then a state at or above it answers 21, then come the other lines." "A refusal answers 16 plus its
+// number."
 uint8_t reading_answer(const Reading *r, uint32_t state)
 {
-    if (state >= MOST_STATES) return 16 + 5;
+    if (r->refused == 17) return 16 + 17;
+    if (state >= r->history.n) return 16 + 5;
     return r->refused ? (uint8_t)(16 + r->refused) : r->status[state];
 }

@@ -5,13 +5,14 @@
 #include "reference.h"
 #include <stdio.h>
 
-// What a record gives: the accepted updates, less those that repeat one, with their marks and statuses; the number of the first refusal, or
-// 0; the number of its lines, and whether they have keys.
+// What a record gives: the accepted updates, less those that repeat one, over as many states as it counts, with their marks and statuses,
+// which are 0 from there on; the number of the first refusal, or 0; the number of its lines, which of them is the names line, 1 or 3, and
+// whether they have keys.
 typedef struct {
     History history;
     uint8_t marks[MOST_STATES], status[MOST_STATES];
     int refused;
-    size_t lines;
+    size_t lines, names;
     int keyed;
 } Reading;
 

@@ -19,6 +19,11 @@ static void status(void)
     static const char ring[] = "kind from to key\nE 0 1 7\nE 1 0 8\nE 1 2 31\nC 0 - -\nC 1 - -\nC 2 - -\nE 2047 65535 32\n";
     radvoinis_status((const uint8_t *)ring, sizeof ring - 1, 1);
 }
+static void counted(void)
+{
+    static const char ring[] = "states\n2048\nkind from to key\nE 0 1 7\nE 1 0 8\nE 1 2 31\nC 0 - -\nC 1 - -\nC 2 - -\nE 2047 65535 32\n";
+    radvoinis_status((const uint8_t *)ring, sizeof ring - 1, 1);
+}
 static void size_of(void) { radvoinis_tables_size(3, 4); }
 static void step(void) { radvoinis_step(&t, 1, 1); }
 static void step_again(void) { radvoinis_step(&t, 1, 2); }
@@ -62,6 +67,7 @@ int main(void)
         {"radvoinis_close", last_close, OTHER_STACK},           {"radvoinis_status_of", question, OTHER_STACK},
         {"radvoinis_check", check, OTHER_STACK},                {"radvoinis_save", save, OTHER_STACK},
         {"radvoinis_tables_size", size_of, OTHER_STACK},        {"radvoinis_step, again", step_again, OTHER_STACK},
+        {"radvoinis_status, with a count", counted, STATUS_STACK},
     };
     static uint8_t memory[256];
     int kept = 1;

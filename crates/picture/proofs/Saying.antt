@@ -3,12 +3,12 @@
 use mathlib.Core.Path.{_≡_, refl, sym, _∙_, ap, subst}
 use mathlib.Core.Bool.{Bool}
 use mathlib.Core.List.{List}
-use Prim.Native.Nat.{ℕ, zero, suc, _<_}
+use Prim.Native.Nat.{ℕ, zero, suc, _≤_, _<_}
 use native.Mathlib.Omega.{arith}
 use lib.ListN.{length, getD}
 use lib.Seq.{getD-take}
 use borrow.Author.Tests.{le-ltb}
-use Rattle.gid.specs.Refusals.{maxSteps}
+use Rattle.gid.specs.Refusals.{maxStates, maxSteps}
 use Rattle.gid.specs.Histories.{History, listed}
 use Rattle.gid.specs.Statuses.{isTerminal, status}
 use Rattle.gid.specs.Successors.{noSuccessor, SuccessorRule}
@@ -17,13 +17,11 @@ use Rattle.tables.specs.declared.Graph.{Graph}
 use Rattle.tables.specs.Marks.{hasTerminal}
 use Rattle.tables.specs.Tables.{Tables, Long}
 use Rattle.tables.specs.Fitting.{sources, targets, keys, StepAt}
-use Rattle.reader.specs.Opening.{readerStates}
 use Rattle.reader.specs.Standing.{Standing}
-use Rattle.reader.specs.Reading.{recordLimit, recordGraph}
 use Rattle.tables.proofs.Bits.{marks-bits}
 use Rattle.tables.proofs.Sizes.{long-enough}
 use Rattle.picture.specs.Picture.{statesText, stepsText, drawing, picture}
-use Rattle.picture.specs.Drawer.{drawnSteps}
+use Rattle.picture.specs.Drawer.{drawnStates, drawnSteps}
 use Rattle.picture.specs.Progress.{Shows}
 use Rattle.picture.proofs.Drawing.{read-same}
 
@@ -48,14 +46,14 @@ entries-same n Arc status successor successor′ e r =
       others = λ s h d. sym (e s h) ∙ r .others s h d;
     }
 
-module _ {h : History} {g : Graph} {t : Tables} (s : Standing recordGraph h g t) where
+module _ {start : Graph} (few : start .n ≤ maxStates) (low : start .limit ≤ maxSteps) {h : History} {g : Graph} {t : Tables} (s : Standing start h g t) where
   abbrev picks : ℕ → ℕ
   picks x = getD (t .successor) x noSuccessor
 
-  statuses : (x : ℕ) → x < readerStates → getD (t .status) x 0 ≡ status h x
+  statuses : (x : ℕ) → x < start .n → getD (t .status) x 0 ≡ status h x
   statuses x z = s .fits .status x (omega (arith, s .states))
 
-  terminals : (x : ℕ) → x < readerStates → hasTerminal (getD (t .marks) x 0) ≡ isTerminal h x
+  terminals : (x : ℕ) → x < start .n → hasTerminal (getD (t .marks) x 0) ≡ isTerminal h x
   terminals x z = ap hasTerminal (s .fits .marks x (omega (arith, s .states))) ∙ marks-bits h x .1
 
   froms : (p : ℕ) → p < g .steps → getD (t .from) p 0 ≡ getD (sources h) p 0
@@ -72,24 +70,24 @@ module _ {h : History} {g : Graph} {t : Tables} (s : Standing recordGraph h g t)
   steps-listed a p b z = (omega (arith, z .0, s .fits .steps), sym (froms p (z .0)) ∙ z .1, sym (tos p (z .0)) ∙ z .2)
 
   -- the tables are long enough
-  roomy : Long readerStates readerStates recordLimit t
-  roomy = long-enough readerStates readerStates recordLimit t (s .long) .1
+  roomy : Long (start .n) (start .n) (start .limit) t
+  roomy = long-enough (start .n) (start .n) (start .limit) t (s .long) .1
 
   -- every step is drawn
   all-drawn : drawnSteps (g .steps) (length (t .from)) (length (t .to)) (length (t .key)) ≡ g .steps
   all-drawn =
-      rw (le-ltb maxSteps (g .steps) (omega (arith, s .room)), le-ltb (length (t .from)) (g .steps) (omega (arith, s .room, roomy .from)), le-ltb (length (t .to)) (g .steps) (omega (arith, s .room, roomy .to)), le-ltb (length (t .key)) (g .steps) (omega (arith, s .room, roomy .key)))
+      rw (le-ltb maxSteps (g .steps) (omega (arith, s .room, low)), le-ltb (length (t .from)) (g .steps) (omega (arith, s .room, roomy .from)), le-ltb (length (t .to)) (g .steps) (omega (arith, s .room, roomy .to)), le-ltb (length (t .key)) (g .steps) (omega (arith, s .room, roomy .key)))
 
   -- The picture of the tables is the picture of the history.
-  pub picture-says : Shows readerStates h (picture readerStates (drawnSteps (g .steps) (length (t .from)) (length (t .to)) (length (t .key))) (t .status) (t .marks) (t .from) (t .to) (t .key) (t .successor))
+  pub picture-says : Shows (start .n) h (picture (drawnStates (g .n)) (drawnSteps (g .steps) (length (t .from)) (length (t .to)) (length (t .key))) (t .status) (t .marks) (t .from) (t .to) (t .key) (t .successor))
   unfolding drawing
   picture-says =
       record {
         successor = picks;
         rule =
-            entries-same readerStates (StepAt (length (listed h)) (sources h) (targets h)) (status h) (λ x. getD (t .successor) x 0) picks (λ x z. read-same (t .successor) x 0 noSuccessor (omega (arith, roomy .successor)))
-            (same-rule readerStates (StepAt (g .steps) (t .from) (t .to)) (StepAt (length (listed h)) (sources h) (targets h)) (λ x. getD (t .status) x 0) (status h) (λ x. getD (t .successor) x 0) steps-listed (λ x z. sym (statuses x z))
+            entries-same (start .n) (StepAt (length (listed h)) (sources h) (targets h)) (status h) (λ x. getD (t .successor) x 0) picks (λ x z. read-same (t .successor) x 0 noSuccessor (omega (arith, roomy .successor)))
+            (same-rule (start .n) (StepAt (g .steps) (t .from) (t .to)) (StepAt (length (listed h)) (sources h) (targets h)) (λ x. getD (t .status) x 0) (status h) (λ x. getD (t .successor) x 0) steps-listed (λ x z. sym (statuses x z))
             (subst (λ (n : ℕ). SuccessorRule n (StepAt (g .steps) (t .from) (t .to)) (λ x. getD (t .status) x 0) (λ x. getD (t .successor) x 0)) (s .states) (s .fits .successor)));
         bytes =
-            rw (all-drawn, states-same readerStates (λ x. getD (t .status) x 0) (status h) (λ x. hasTerminal (getD (t .marks) x 0)) (isTerminal h) statuses terminals, steps-same (g .steps) (λ p. getD (t .from) p 0) (λ p. getD (t .to) p 0) (λ p. getD (t .key) p 0) (λ p. getD (sources h) p 0) (λ p. getD (targets h) p 0) (λ p. getD (keys h) p 0) picks froms tos bys, s .fits .steps) refl;
+            rw (le-ltb maxStates (g .n) (omega (arith, s .states, few)), s .states, all-drawn, states-same (start .n) (λ x. getD (t .status) x 0) (status h) (λ x. hasTerminal (getD (t .marks) x 0)) (isTerminal h) statuses terminals, steps-same (g .steps) (λ p. getD (t .from) p 0) (λ p. getD (t .to) p 0) (λ p. getD (t .key) p 0) (λ p. getD (sources h) p 0) (λ p. getD (targets h) p 0) (λ p. getD (keys h) p 0) picks froms tos bys, s .fits .steps) refl;
       }

@@ -7,13 +7,13 @@ use mathlib.Core.Option.{Option, some, none}
 use Prim.Native.Nat.{ℕ, _≤_, _<_}
 use lib.Dec.{ltb}
 use lib.ListN.{length}
-use Rattle.gid.specs.Refusals.{maxSteps}
+use Rattle.gid.specs.Refusals.{maxStates, maxSteps}
 use Rattle.tables.specs.Tables.{Tables}
 use Rattle.record.specs.Text.{WroteAt}
-use Rattle.record.specs.Splitting.{started, lastNewline}
+use Rattle.record.specs.Splitting.{started, lastNewlines}
 use Rattle.reader.specs.declared.Reader.{Reader}
 use Rattle.reader.specs.declared.task.Task.the-variants.{Read, End}
-use Rattle.reader.specs.Opening.{readerStates, openRefusal, openedTables}
+use Rattle.reader.specs.Opening.{openRefusal, openedTables}
 use Rattle.reader.specs.Reading.{recordLimit, recordGraph}
 use Rattle.reader.specs.Advancing.{Follows}
 use Rattle.picture.specs.declared.drawer.Drawer.{Drawer}
@@ -32,9 +32,13 @@ pub record BeginsDrawing (t : Tables) (r : Drawer) (t′ : Tables) : Type 0 wher
 abbrev pub drawnSteps : (steps from to key : ℕ) → ℕ
 drawnSteps steps from to key = cond (ltb maxSteps steps) 0 (cond (ltb from steps) 0 (cond (ltb to steps) 0 (cond (ltb key steps) 0 steps)))
 
--- The picture of a reader's tables, over the states that a reader makes them fresh for.
+-- How many states are drawn: those of the state value, and no more than there can be.
+abbrev pub drawnStates : ℕ → ℕ
+drawnStates n = cond (ltb maxStates n) maxStates n
+
+-- The picture of a reader's tables.
 abbrev pub pictureBy : Reader → (status marks from to key successor : List ℕ) → List ℕ
-pictureBy r status marks from to key successor = picture readerStates (drawnSteps (r .engine .graph .steps) (length from) (length to) (length key)) status marks from to key successor
+pictureBy r status marks from to key successor = picture (drawnStates (r .engine .graph .n)) (drawnSteps (r .engine .graph .steps) (length from) (length to) (length key)) status marks from to key successor
 
 -- The picture has been written: that is all.
 pub data PutsPicture (r : Reader) (status marks from to key successor output : List ℕ) (d : Drawer) (output′ : List ℕ) : Type 0 where
@@ -56,5 +60,5 @@ pub data Draws (d : Drawer) (piece output : List ℕ) (t : Tables) (d′ : Drawe
       {left : List ℕ} → Follows (d .reader .splitter) piece (d .reader .engine .graph) t (d′ .reader .splitter) left (d′ .reader .engine .graph) t′ → d′ .reader .splitter .stopped ≡ true →
       d′ .task ≡ End → WroteAt 0 (pictureBy (d′ .reader) (t′ .status) (t′ .marks) (t′ .from) (t′ .to) (t′ .key) (t′ .successor)) output output′ (d′ .end) → d′ .end ≤ length output → Draws d piece output t d′ output′ t′
   ended :
-      {newline left : List ℕ} → piece ≡ [] → newline ≡ lastNewline (d .reader .splitter) → Follows (d .reader .splitter) newline (d .reader .engine .graph) t (d′ .reader .splitter) left (d′ .reader .engine .graph) t′ → left ≡ [] →
+      {newline left : List ℕ} → piece ≡ [] → newline ≡ lastNewlines (d .reader .splitter) → Follows (d .reader .splitter) newline (d .reader .engine .graph) t (d′ .reader .splitter) left (d′ .reader .engine .graph) t′ → left ≡ [] →
       d′ .task ≡ End → WroteAt 0 (pictureBy (d′ .reader) (t′ .status) (t′ .marks) (t′ .from) (t′ .to) (t′ .key) (t′ .successor)) output output′ (d′ .end) → d′ .end ≤ length output → Draws d piece output t d′ output′ t′

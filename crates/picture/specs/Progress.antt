@@ -10,7 +10,7 @@ use Rattle.gid.specs.Successors.{SuccessorRule}
 use Rattle.tables.specs.Tables.{Tables}
 use Rattle.tables.specs.Fitting.{sources, targets, keys, StepAt}
 use Rattle.reader.specs.declared.task.Task.the-variants.{Read, End}
-use Rattle.reader.specs.Replaying.{historyOf}
+use Rattle.reader.specs.Replaying.{recordStart, historyOf}
 use Rattle.reader.specs.Reading.{recordLimit, recordGraph}
 use Rattle.reader.specs.Underway.{Underway}
 use Rattle.picture.specs.declared.drawer.Drawer.{Drawer}
@@ -25,7 +25,7 @@ pub record Shows (n : ℕ) (h : History) (text : List ℕ) : Type 0 where
 -- The bytes `got` have been read. Where the drawing goes on, the tables stand for their lines; where it has ended, at the end of the input (the last piece is empty) or where reading has stopped, what stands in the output is the picture of the input's accepted lines, whatever followed where reading has stopped.
 pub data DrawingProgress (got : List ℕ) (d : Drawer) (piece output : List ℕ) (t : Tables) : Type 0 where
   reads : d .task ≡ Read → Underway recordGraph got (d .reader .splitter) [] (d .reader .engine .graph) t → DrawingProgress got d piece output t
-  ends : d .task ≡ End → ((rest : List ℕ) → (piece ≡ [] → rest ≡ []) → Shows (recordGraph .n) (historyOf recordLimit (got ++ rest)) (take (d .end) output)) → DrawingProgress got d piece output t
+  ends : d .task ≡ End → ((rest : List ℕ) → (piece ≡ [] → rest ≡ []) → Shows (recordStart recordLimit (got ++ rest) .n) (historyOf recordLimit (got ++ rest)) (take (d .end) output)) → DrawingProgress got d piece output t
 
 -- The same for some bytes that have been read: what can be said of a program, since no contract says which bytes the system reads.
 pub record DrawingBegun (d : Drawer) (output : List ℕ) (t : Tables) : Type 0 where

@@ -6,7 +6,7 @@ ghost use Rattle.tables.specs.Tables.{Tables, tablesOf};
 ghost use Rattle.reader.specs.Opening.{Opens};
 ghost use Rattle.reader.specs.Reading.{recordLimit};
 ghost use Rattle.picture.specs.Picture.{pictureRoom};
-ghost use Rattle.picture.specs.Drawer.{drawnSteps, BeginsDrawing, Draws, AfterPiece, PutsPicture};
+ghost use Rattle.picture.specs.Drawer.{drawnStates, drawnSteps, BeginsDrawing, Draws, AfterPiece, PutsPicture};
 use crate::text::PICTURE_ROOM;
 use crate::text::put_picture;
 use engine::Engine;
@@ -17,6 +17,7 @@ use reader::Task;
 use reader::Until;
 use reader::piece_or;
 use tables::Graph;
+use tables::MAX_STATES;
 use tables::MAX_STEPS;
 
 // Where a drawing stands: the reader, the place after the text in the output, and what the caller is to do.
@@ -117,9 +118,9 @@ pub fn draw(
         };
     }
     let splitter = reader.splitter;
-    let newline: &[u8] = b"\n";
+    let newlines: &[u8] = b"\n\n";
     let lacking = splitter.lacking();
-    let part = piece_or(piece, &newline[..lacking]);
+    let part = piece_or(piece, &newlines[..lacking]);
     let turn = reader.advance(
         part,
         0,
@@ -196,12 +197,23 @@ fn close(
     let engine = reader.engine;
     let graph = engine.graph;
     let m = drawn_steps(graph.steps, from.len(), to.len(), key.len());
-    let end = put_picture(output, 0, m, status, marks, from, to, key, successor);
+    let n = drawn_states(graph.n);
+    let end = put_picture(output, 0, n, m, status, marks, from, to, key, successor);
     Drawer {
         reader,
         end,
         task: Task::End,
     }
+}
+
+// How many states are drawn: those of the state value, and no more than there can be.
+fn drawn_states(n: usize) -> usize
+    ensures { λ r. ⌜ r ≡ drawnStates n ⌝ }
+{
+    if MAX_STATES < n {
+        return MAX_STATES;
+    }
+    n
 }
 
 // How many steps are drawn: those counted, where the tables have so many.

@@ -12,7 +12,6 @@ use record::put_bytes_at;
 use record::put_number_at;
 use tables::DEAD;
 use tables::LIVE;
-use tables::MAX_STATES;
 use tables::NO_SUCCESSOR;
 use tables::OPEN;
 use tables::UNKNOWN;
@@ -26,6 +25,7 @@ pub const PICTURE_ROOM: usize = 557056;
 pub fn put_picture(
     buf: &mut [u8],
     at: usize,
+    n: usize,
     m: usize,
     status: &[u8],
     marks: &[u8],
@@ -34,27 +34,27 @@ pub fn put_picture(
     key: &[u8],
     successor: &[u16],
 ) -> usize
-    requires { ⌜ (m ≤ maxSteps) × (m ≤ length (now from)) × (m ≤ length (now to)) × (m ≤ length (now key)) × (at + pictureRoom ≤ length (now buf)) ⌝ }
-    ensures { λ r. ⌜ WroteAt at (picture readerStates m (now (status .entry)) (now (marks .entry)) (now (from .entry)) (now (to .entry)) (now (key .entry)) (now (successor .entry))) (now (buf .entry)) (now (buf .exit)) r × (r ≤ at + pictureRoom) ⌝ }
+    requires { ⌜ (n ≤ readerStates) × (m ≤ maxSteps) × (m ≤ length (now from)) × (m ≤ length (now to)) × (m ≤ length (now key)) × (at + pictureRoom ≤ length (now buf)) ⌝ }
+    ensures { λ r. ⌜ WroteAt at (picture n m (now (status .entry)) (now (marks .entry)) (now (from .entry)) (now (to .entry)) (now (key .entry)) (now (successor .entry))) (now (buf .entry)) (now (buf .exit)) r × (r ≤ at + pictureRoom) ⌝ }
 {
     let states = put_bytes_at(
         buf,
         at,
         b"digraph verdicts {\n  rankdir=LR;\n  node [style=filled];\n",
     );
-    let steps = put_states(buf, states, status, marks);
+    let steps = put_states(buf, states, n, status, marks);
     let end = put_steps(buf, steps, m, from, to, key, successor);
     put_bytes_at(buf, end, b"}\n")
 }
 
-// The lines of the states, by rising state.
-fn put_states(buf: &mut [u8], at: usize, status: &[u8], marks: &[u8]) -> usize
-    requires { ⌜ at + 69 * readerStates ≤ length (now buf) ⌝ }
-    ensures { λ r. ⌜ WroteAt at (statesText readerStates (λ s. getD (now (status .entry)) s 0) (λ s. hasTerminal (getD (now (marks .entry)) s 0))) (now (buf .entry)) (now (buf .exit)) r × (r ≤ at + 69 * readerStates) ⌝ }
+// The lines of the first n states, by rising state.
+fn put_states(buf: &mut [u8], at: usize, n: usize, status: &[u8], marks: &[u8]) -> usize
+    requires { ⌜ (n ≤ readerStates) × (at + 69 * n ≤ length (now buf)) ⌝ }
+    ensures { λ r. ⌜ WroteAt at (statesText n (λ s. getD (now (status .entry)) s 0) (λ s. hasTerminal (getD (now (marks .entry)) s 0))) (now (buf .entry)) (now (buf .exit)) r × (r ≤ at + 69 * n) ⌝ }
 {
     let mut end = at;
     let mut s = 0;
-    while s < MAX_STATES {
+    while s < n {
         end = put_state(buf, end, s, status_of(status, s), is_terminal(marks, s));
         s += 1;
     }

@@ -2,20 +2,24 @@
 ghost use mathlib.Core.Path.{_≡_};
 ghost use Prim.Native.Nat.{_≤_};
 ghost use Rattle.tables.specs.Tables.{tablesOf};
-ghost use Rattle.query.specs.Answering.{StatusAfter, refusedOr, Few};
+ghost use Rattle.query.specs.Answering.{StatusAfter, outOfRange, headRefusal, refusedOr, Few};
+ghost use Rattle.tables.specs.Refused.{number};
 use reader::LineAnswer;
 use reader::Opened;
 use reader::RECORD_LIMIT;
 use reader::Reader;
 use reader::Until;
 use reader::is_refused;
+use record::BAD_COUNT;
+use record::Item;
+use record::states_of;
 use tables::MAX_STATES;
 use tables::OUT_OF_RANGE;
 
 // "A refusal answers 16 plus its number".
 const REFUSED: u8 = 16;
 
-// The status of a state after a record, 0 to 4, or 16 plus the number of the first refusal: of the state, of the tables, or of a line. The lines behind a refused one are not read.
+// The status of a state after a record, 0 to 4, or 16 plus the number of the first refusal: of the tables, of the record's count, of the state, or of a line. The lines behind a refused one are not read, and none is where the count or the state is refused.
 pub fn status_after(
     bytes: &[u8],
     state: usize,
@@ -35,9 +39,6 @@ pub fn status_after(
 ) -> u8
     ensures { λ r. ⌜ StatusAfter (now (bytes .entry)) state ((tablesOf (now (status .entry)) (now (marks .entry)) (now (from .entry)) (now (to .entry)) (now (key .entry)) (now (successor .entry)) (now (news .entry)) (now («in_head» .entry)) (now («out_head» .entry)) (now (queue .entry)) (now (visited .entry)) (now («in_next» .entry)) (now («out_next» .entry)))) ((tablesOf (now (status .exit)) (now (marks .exit)) (now (from .exit)) (now (to .exit)) (now (key .exit)) (now (successor .exit)) (now (news .exit)) (now («in_head» .exit)) (now («out_head» .exit)) (now (queue .exit)) (now (visited .exit)) (now («in_next» .exit)) (now («out_next» .exit)))) r ⌝ }
 {
-    if MAX_STATES <= state {
-        return REFUSED + OUT_OF_RANGE;
-    }
     match reader::open(
         RECORD_LIMIT,
         status,
@@ -56,6 +57,10 @@ pub fn status_after(
     ) {
         Opened::Refused(number) => REFUSED + number,
         Opened::Ready(engine) => {
+            let refused = head_refusal(states_of(bytes), state);
+            if refused != 0 {
+                return REFUSED + refused;
+            }
             let start = Reader::start(engine);
             let first = start.advance(
                 bytes,
@@ -81,10 +86,10 @@ pub fn status_after(
             }
             let reader = first.reader;
             let splitter = reader.splitter;
-            let newline: &[u8] = b"\n";
+            let newlines: &[u8] = b"\n\n";
             let lacking = splitter.lacking();
             let last = reader.advance(
-                &newline[..lacking],
+                &newlines[..lacking],
                 0,
                 Until::Refusal,
                 status,
@@ -105,6 +110,26 @@ pub fn status_after(
             refused_or(ended, status[state])
         }
     }
+}
+
+// "The C call tests the count first, then a state at or above it": the number of the test that applies, or 0.
+fn head_refusal(count: Item, state: usize) -> u8
+    ensures { λ r. ⌜ r ≡ number (headRefusal count state) ⌝ }
+{
+    match count {
+        Item::States(n) => out_of_range(n, state),
+        Item::BadCount => BAD_COUNT,
+        _ => out_of_range(MAX_STATES, state),
+    }
+}
+
+fn out_of_range(n: usize, state: usize) -> u8
+    ensures { λ r. ⌜ r ≡ number (outOfRange n state) ⌝ }
+{
+    if n <= state {
+        return OUT_OF_RANGE;
+    }
+    0
 }
 
 // The answer for a refused line, or the one that is given.

@@ -5,5 +5,6 @@ pub mod Following
 pub mod Going
 pub mod Whole
 pub mod Parts
+pub mod Ending
 pub mod Pieces
 pub mod Refusing

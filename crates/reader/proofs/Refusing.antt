@@ -4,23 +4,24 @@ use mathlib.Core.Path.{_≡_, refl, sym, _∙_, ap, subst}
 use mathlib.Core.Bool.{true, false, false≢true}
 use mathlib.Core.List.{List, [], _∷_, _++_, append-assoc, append-nil}
 use mathlib.Core.Option.{Option, some, none}
-use Prim.Native.Nat.{ℕ}
+use Prim.Native.Nat.{ℕ, _≤_}
 use native.Mathlib.Omega.{arith}
 use Rattle.gid.specs.Histories.{History}
+use Rattle.gid.specs.Refusals.{maxStates}
 use Rattle.gid.specs.Outcomes.{Outcome, refused, accepted}
 use Rattle.tables.specs.declared.Graph.{Graph}
 use Rattle.tables.specs.Tables.{Tables}
 use Rattle.record.specs.declared.splitter.Item.{Item}
 use Rattle.record.specs.Items.{itemLine}
+use Rattle.record.proofs.Heading.{NoCounts, Headed}
 use Rattle.reader.specs.declared.driver.LineAnswer.{LineAnswer}
 use Rattle.reader.specs.declared.driver.LineAnswer.the-variants.{Nothing, Accepted, Refused}
 use Rattle.reader.specs.declared.driver.Until.the-variants.{Refusal as UntilRefusal}
-use Rattle.reader.specs.Turning.{Came, lineOutcome}
-use Rattle.reader.specs.Replaying.{outcomeOf, afterItem, Refusal, orLater, firstRefusal, orStop, upToRefusal}
+use Rattle.reader.specs.Turning.{lineOutcome}
+use Rattle.reader.specs.Replaying.{startOf, outcomeOf, afterItem, Refusal, orLater, firstRefusal, orStop, upToRefusal}
 use Rattle.reader.specs.Standing.{Standing}
 use Rattle.reader.specs.Advancing.{Passed, itemsOf, Applies, none as no-line, next, waited, Quiet, Stops, found, ended}
-use Rattle.reader.proofs.Lines.{lineTold, line-right}
-use Rattle.reader.proofs.Following.{applies-then, items-then}
+use Rattle.reader.proofs.Lines.{lineTold, line-right, head-right}
 use Rattle.reader.proofs.Whole.{orRefused, told-refused}
 
 -- the first refusal is found where the lines stop, and none behind it counts
@@ -50,10 +51,7 @@ pub record Decided (start : Graph) (h : History) (lines : List Item) (o : LineAn
   pub refusal : firstRefusal start h lines ≡ orRefused o none
   pub upTo : upToRefusal start h lines ≡ first
 
-module _ {start : Graph} {h : History} {g g₁ : Graph} {t : Tables} {p : Passed} (s : Standing start h g t) (c : Came (p .item) g t g₁ (p .after) (p .answer)) where
-  told : lineOutcome (p .answer) (p .after .news) ≡ lineTold start h (p .item)
-  told = line-right s c .0
-
+module _ {start : Graph} {h : History} (p : Passed) (told : lineOutcome (p .answer) (p .after .news) ≡ lineTold start h (p .item)) where
   step-quiet : {lines first : List Item} {o : LineAnswer} → waited UntilRefusal (p .answer) ≡ false → Decided start (afterItem start h (p .item)) lines o first → Decided start h (p .item ∷ lines) o (p .item ∷ first)
   step-quiet {lines} e d =
       let r = firstRefusal start (afterItem start h (p .item)) lines in
@@ -72,18 +70,28 @@ module _ {start : Graph} {h : History} {g g₁ : Graph} {t : Tables} {p : Passed
         upTo = ap (λ (x : List Item). p .item ∷ x) (stop-told start h (p .item) (p .answer) (p .after .news) told l .0 e);
       }
 
-found-at : {start : Graph} {h : History} {g g′ : Graph} {t t′ : Tables} (before : List Passed) (p : Passed) → Standing start h g t → Applies g t (before ++ (p ∷ [])) g′ t′ → Quiet UntilRefusal before → waited UntilRefusal (p .answer) ≡ true → (rest : List Item) → Decided start h (itemsOf (before ++ (p ∷ [])) ++ rest) (p .answer) (itemsOf (before ++ (p ∷ [])))
-found-at [] p s (next c a) q w rest = step-found s c rest w
-found-at (b ∷ before) p s (next c a) q w rest = step-quiet s c (q .0) (found-at before p (line-right s c .1) a (q .1) w rest)
+found-at : {start : Graph} {h : History} {g g′ : Graph} {t t′ : Tables} (before : List Passed) (p : Passed) → NoCounts (itemsOf (before ++ (p ∷ []))) → Standing start h g t → Applies g t (before ++ (p ∷ [])) g′ t′ → Quiet UntilRefusal before → waited UntilRefusal (p .answer) ≡ true → (rest : List Item) → Decided start h (itemsOf (before ++ (p ∷ [])) ++ rest) (p .answer) (itemsOf (before ++ (p ∷ [])))
+found-at [] p n s (next c a) q w rest = step-found p (line-right s (n .0) c .0) rest w
+found-at (b ∷ before) p n s (next c a) q w rest = let r = line-right s (n .0) c in step-quiet b (r .0) (q .0) (found-at before p (n .1) (r .1) a (q .1) w rest)
 
-quiet-all : {start : Graph} {h : History} {g g′ : Graph} {t t′ : Tables} {l : List Passed} → Standing start h g t → Applies g t l g′ t′ → Quiet UntilRefusal l → Decided start h (itemsOf l) Nothing (itemsOf l)
-quiet-all s no-line q = record { refusal = refl; upTo = refl }
-quiet-all s (next c a) q = step-quiet s c (q .0) (quiet-all (line-right s c .1) a (q .1))
+quiet-all : {start : Graph} {h : History} {g g′ : Graph} {t t′ : Tables} {l : List Passed} → NoCounts (itemsOf l) → Standing start h g t → Applies g t l g′ t′ → Quiet UntilRefusal l → Decided start h (itemsOf l) Nothing (itemsOf l)
+quiet-all n s no-line q = record { refusal = refl; upTo = refl }
+quiet-all n s (next {p = p} c a) q = let r = line-right s (n .0) c in step-quiet p (r .0) (q .0) (quiet-all (n .1) (r .1) a (q .1))
 
--- Lines that stop at a refusal, whatever follows, or that are all there are.
-pub decides : {start : Graph} {h : History} {g g′ : Graph} {t t′ : Tables} {l : List Passed} {left : List ℕ} {o : LineAnswer} → Standing start h g t → Applies g t l g′ t′ → Stops UntilRefusal l left o → (rest : List Item) → (o ≡ Nothing → rest ≡ []) → Decided start h (itemsOf l ++ rest) o (itemsOf l)
-decides {start} {h} {l = l} s a (found before p e q w z) rest n = rw (e, z) (found-at before p s (rw e at a) q (rw z at w) rest)
-decides {start} {h} {l = l} s a (ended q e z) rest n = rw (z, n z, append-nil (itemsOf l)) (quiet-all s a q)
+-- From the start of a record.
+module _ {start : Graph} {g : Graph} {t : Tables} (wide : maxStates ≤ start .n) (s : Standing start [] g t) where
+  found-begins : {g′ : Graph} {t′ : Tables} (before : List Passed) (p : Passed) → Headed (itemsOf (before ++ (p ∷ []))) → Applies g t (before ++ (p ∷ [])) g′ t′ → Quiet UntilRefusal before → waited UntilRefusal (p .answer) ≡ true → (rest : List Item) → Decided (startOf start (itemsOf (before ++ (p ∷ [])) ++ rest)) [] (itemsOf (before ++ (p ∷ [])) ++ rest) (p .answer) (itemsOf (before ++ (p ∷ [])))
+  found-begins [] p h (next c a) q w rest = step-found p (head-right wide s (h .0) c .0) rest w
+  found-begins (b ∷ before) p h (next c a) q w rest = let r = head-right wide s (h .0) c in step-quiet b (r .0) (q .0) (found-at before p (h .1) (r .1) a (q .1) w rest)
+
+  quiet-begins : {g′ : Graph} {t′ : Tables} {l : List Passed} → Headed (itemsOf l) → Applies g t l g′ t′ → Quiet UntilRefusal l → Decided (startOf start (itemsOf l)) [] (itemsOf l) Nothing (itemsOf l)
+  quiet-begins h no-line q = record { refusal = refl; upTo = refl }
+  quiet-begins h (next {p = p} c a) q = let r = head-right wide s (h .0) c in step-quiet p (r .0) (q .0) (quiet-all (h .1) (r .1) a (q .1))
+
+  -- Lines that stop at a refusal, whatever follows, or that are all there are.
+  pub decides : {g′ : Graph} {t′ : Tables} {l : List Passed} {left : List ℕ} {o : LineAnswer} → Headed (itemsOf l) → Applies g t l g′ t′ → Stops UntilRefusal l left o → (rest : List Item) → (o ≡ Nothing → rest ≡ []) → Decided (startOf start (itemsOf l ++ rest)) [] (itemsOf l ++ rest) o (itemsOf l)
+  decides {l = l} h a (found before p e q w z) rest n = rw (e, z) (found-begins before p (subst (λ (x : List Passed). Headed (itemsOf x)) e h) (rw e at a) q (rw z at w) rest)
+  decides {l = l} h a (ended q e z) rest n = rw (z, n z, append-nil (itemsOf l)) (quiet-begins h a q)
 
 quiet-then : (l m : List Passed) → Quiet UntilRefusal l → Quiet UntilRefusal m → Quiet UntilRefusal (l ++ m)
 quiet-then [] m a b = b

@@ -8,18 +8,19 @@ use lib.Dec.{eqb}
 use lib.ListN.{length}
 use Rattle.gid.specs.Refusals.{maxStates}
 use Rattle.tables.specs.declared.Graph.{Graph}
-use Rattle.tables.specs.Tables.{Tables, nodesOf}
+use Rattle.tables.specs.Tables.{Tables}
 use Rattle.tables.specs.Keeping.{KeptTables}
 use Rattle.record.specs.declared.splitter.Item.{Item}
 use Rattle.record.specs.declared.splitter.Splitter.{Splitter}
 use Rattle.record.specs.Items.{maxLines}
-use Rattle.record.specs.Splitting.{run, afterBytes, lastNewline}
+use Rattle.record.specs.Splitting.{tells, afterBytes, lastNewlines}
 use Rattle.engine.specs.declared.Engine.{Engine}
 use Rattle.reader.specs.declared.driver.LineAnswer.{LineAnswer}
 use Rattle.reader.specs.declared.driver.LineAnswer.the-variants.{Nothing, Accepted, Refused}
 use Rattle.reader.specs.declared.driver.Until.{Until}
 use Rattle.reader.specs.declared.driver.Until.the-variants.{News, Refusal, End}
 use Rattle.reader.specs.declared.ReadAnswer.{ReadAnswer}
+use Rattle.reader.specs.Opening.{readerStates}
 use Rattle.reader.specs.Turning.{Came}
 use Rattle.reader.specs.Reading.{readWith}
 
@@ -68,11 +69,12 @@ Bounded (Refused line k) news = line ≤ maxLines + 1
 pub record Follows (s : Splitter) (bytes : List ℕ) (g : Graph) (t : Tables) (s′ : Splitter) (bytes′ : List ℕ) (g′ : Graph) (t′ : Tables) : Type 0 where
   pub passed : List Passed
   pub applied : Applies g t passed g′ t′
-  -- The lines passed are the next of the record, whatever follows the bytes.
-  pub told : (rest : List ℕ) → run s (bytes ++ rest) ≡ itemsOf passed ++ run s′ (bytes′ ++ rest)
-  -- The splitter is where all of the bytes, one by one, would have brought it.
-  pub fed : afterBytes s bytes ≡ afterBytes s′ bytes′
-  pub kept : KeptTables (g .n) (nodesOf g) (g .limit) t t′
+  -- The bytes up to those that are left are read. One by one they tell the lines passed, and bring the splitter where it stands.
+  pub read : List ℕ
+  pub split : bytes ≡ read ++ bytes′
+  pub told : tells s read ≡ itemsOf passed
+  pub fed : s′ ≡ afterBytes s read
+  pub kept : KeptTables readerStates readerStates (g .limit) t t′
 
 -- The same, up to a line that is waited for.
 pub record Advances (until : Until) (s : Splitter) (bytes : List ℕ) (g : Graph) (t : Tables) (s′ : Splitter) (bytes′ : List ℕ) (g′ : Graph) (t′ : Tables) (answer : LineAnswer) : Type 0 where
@@ -82,8 +84,8 @@ pub record Advances (until : Until) (s : Splitter) (bytes : List ℕ) (g : Graph
   pub idle : bytes ≡ [] → follows .passed ≡ []
   pub bounded : Bounded answer (t′ .news)
 
--- What is left of a record behind a line with the answer `first`: the lines up to the end of the bytes, and the last one where it lacks its newline. The answer is by what came of the first refusal.
+-- What is left of a record behind a line with the answer `first`: the lines up to the end of the bytes, and those that lack their newline. The answer is by what came of the first refusal.
 pub data ReadsRest (s : Splitter) (bytes : List ℕ) (g : Graph) (t : Tables) (first : LineAnswer) (t′ : Tables) (r : ReadAnswer) : Type 0 where
   rests :
       {s₁ s₂ : Splitter} {left newline over : List ℕ} {g₁ : Graph} {t₁ : Tables} {e : Engine} {o last : LineAnswer} →
-      Advances End s bytes g t s₁ left g₁ t₁ o → newline ≡ lastNewline s₁ → Advances Refusal s₁ newline g₁ t₁ s₂ over (e .graph) t′ last → over ≡ [] → r ≡ readWith e first last → ReadsRest s bytes g t first t′ r
+      Advances End s bytes g t s₁ left g₁ t₁ o → newline ≡ lastNewlines s₁ → Advances Refusal s₁ newline g₁ t₁ s₂ over (e .graph) t′ last → over ≡ [] → r ≡ readWith e first last → ReadsRest s bytes g t first t′ r

@@ -13,9 +13,10 @@ use Rattle.engine.specs.declared.Answer.the-variants.{Accepted as Yes, Refused 
 use Rattle.engine.specs.Answers.{answerOutcome}
 use Rattle.engine.specs.Promise.{Promise}
 use Rattle.record.specs.declared.splitter.Item.{Item}
-use Rattle.record.specs.declared.splitter.Item.the-variants.{Nothing as NoLine, Update, Malformed, BadNames, TooMany}
+use Rattle.record.specs.declared.splitter.Item.the-variants.{Nothing as NoLine, Update, Malformed, BadNames, TooMany, States, BadCount}
 use Rattle.record.specs.declared.splitter.Numbered.{Numbered}
 use Rattle.record.specs.Items.{itemNumber, itemLine}
+use Rattle.reader.specs.Replaying.{graphAfter}
 use Rattle.reader.specs.declared.driver.LineAnswer.{LineAnswer}
 use Rattle.reader.specs.declared.driver.LineAnswer.the-variants.{Nothing, Accepted, Refused}
 
@@ -43,10 +44,12 @@ numberAnswer line (some k) = Refused line k
 abbrev pub itemAnswer : Item → LineAnswer
 itemAnswer a = numberAnswer (itemLine a) (itemNumber a)
 
--- The line's update keeps the engine's promise, and its answer tells the line's number with document 01's number and values of the engine's answer; "a 10, 11 or 12 changes nothing further".
+-- The line's update keeps the engine's promise, and its answer tells the line's number with document 01's number and values of the engine's answer; "a 10, 11 or 12 changes nothing further", nor does a 17; a count gives the number of states.
 pub data Came : Item → Graph → Tables → Graph → Tables → LineAnswer → Type 0 where
   sent : {r : Numbered} {g g′ : Graph} {t t′ : Tables} {a : Answer} {o : LineAnswer} → Promise g (r .update) t g′ a t′ → o ≡ lineAnswer (r .line) a → lineOutcome o (t′ .news) ≡ some (record { line = r .line; outcome = answerOutcome a (t′ .news) }) → Came (Update r) g t g′ t′ o
   nothing : {g : Graph} {t : Tables} → Came NoLine g t g t (itemAnswer NoLine)
   malformed : {n : ℕ} {g : Graph} {t : Tables} → Came (Malformed n) g t g t (itemAnswer (Malformed n))
-  badNames : {g : Graph} {t : Tables} → Came BadNames g t g t (itemAnswer BadNames)
+  badNames : {n : ℕ} {g : Graph} {t : Tables} → Came (BadNames n) g t g t (itemAnswer (BadNames n))
   tooMany : {g : Graph} {t : Tables} → Came TooMany g t g t (itemAnswer TooMany)
+  states : {c : ℕ} {g : Graph} {t : Tables} → Came (States c) g t (graphAfter (States c) g) t (itemAnswer (States c))
+  badCount : {g : Graph} {t : Tables} → Came BadCount g t g t (itemAnswer BadCount)

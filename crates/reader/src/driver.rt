@@ -5,14 +5,18 @@ ghost use lib.ListN.{length, drop};
 ghost use Rattle.tables.specs.Tables.{tablesOf};
 ghost use Rattle.record.specs.Splitting.{afterPart};
 ghost use Rattle.reader.specs.Turning.{itemAnswer, lineAnswer, Came};
+ghost use Rattle.reader.specs.Replaying.{graphAfter};
 ghost use Rattle.reader.specs.Advancing.{waited, Advances};
 use crate::Reader;
 use engine::Answer;
+use engine::Engine;
+use record::BAD_COUNT;
 use record::BAD_NAMES;
 use record::Item;
 use record::MALFORMED;
 use record::MAX_LINES;
 use record::TOO_MANY_LINES;
+use tables::Graph;
 
 // What comes of a line, with its number: it is accepted with a number of news, or refused with document 01's number; or no line has ended.
 pub enum LineAnswer {
@@ -164,7 +168,7 @@ impl Reader {
             _ => Turn {
                 reader: Reader {
                     splitter: after,
-                    engine,
+                    engine: counted(engine, item),
                 },
                 answer: item_answer(item),
                 next,
@@ -205,6 +209,23 @@ pub fn is_refused(answer: LineAnswer) -> bool
     }
 }
 
+// The engine behind a line that is no update: a count gives the number of states.
+fn counted(engine: Engine, item: Item) -> Engine
+    ensures { λ r. ⌜ r .graph ≡ graphAfter item (engine .graph) ⌝ }
+{
+    let graph = engine.graph;
+    match item {
+        Item::States(count) => Engine {
+            graph: Graph {
+                n: count,
+                limit: graph.limit,
+                steps: graph.steps,
+            },
+        },
+        _ => engine,
+    }
+}
+
 // What comes of a line by what the engine answered to its update.
 fn line_answer(line: usize, answer: Answer) -> LineAnswer
     ensures { λ r. ⌜ r ≡ lineAnswer line answer ⌝ }
@@ -226,13 +247,18 @@ fn item_answer(item: Item) -> LineAnswer
             line,
             number: MALFORMED,
         },
-        Item::BadNames => LineAnswer::Refused {
-            line: 1,
+        Item::BadNames(line) => LineAnswer::Refused {
+            line,
             number: BAD_NAMES,
         },
         Item::TooMany => LineAnswer::Refused {
             line: MAX_LINES + 1,
             number: TOO_MANY_LINES,
+        },
+        Item::States(_) => LineAnswer::Nothing,
+        Item::BadCount => LineAnswer::Refused {
+            line: 2,
+            number: BAD_COUNT,
         },
     }
 }

@@ -55,7 +55,7 @@ impl Reader {
         }
     }
 
-    // Whether reading has stopped, at a 10 or a 12.
+    // Whether reading has stopped, at a 10, a 12 or a 17.
     pub fn is_over(self) -> bool
         ensures { λ r. ⌜ r ≡ self .splitter .stopped ⌝ }
     {
@@ -64,7 +64,7 @@ impl Reader {
     }
 }
 
-// Reads a whole record, of any bytes, with a step limit: tests 2 and 3, makes the tables fresh, and applies each line.
+// Reads a whole record, of any bytes, with a step limit: tests 2 and 3, makes the tables fresh, and applies each line. n is the record's count, and 2,048 where it gives none.
 pub fn read(
     limit: usize,
     bytes: &[u8],
@@ -148,7 +148,7 @@ pub fn read(
     }
 }
 
-// Reads what is left of a record behind its first refused line, and its last line. The answer is by what came of the first refused line, or of the last.
+// Reads what is left of a record behind its first refused line, and the lines that lack their newline. The answer is by what came of the first refused line, or of the last.
 fn read_rest(
     reader: Reader,
     bytes: &[u8],
@@ -190,10 +190,10 @@ fn read_rest(
     );
     let ended = rest.reader;
     let splitter = ended.splitter;
-    let newline: &[u8] = b"\n";
+    let newlines: &[u8] = b"\n\n";
     let len = splitter.lacking();
     let last = ended.advance(
-        &newline[..len],
+        &newlines[..len],
         0,
         Until::Refusal,
         status,

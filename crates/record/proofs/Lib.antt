@@ -7,3 +7,4 @@ pub mod Reading
 pub mod Splitting
 pub mod Writing
 pub mod Placing
+pub mod Heading

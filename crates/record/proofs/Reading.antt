@@ -1,8 +1,8 @@
--- A line is an update exactly where it is the update's text. It rests on one lemma for a value: the text of a number, with no digit behind it, is read as that number.
+-- A line is an update exactly where it is the update's text, and a count exactly where it is a count's. It rests on one lemma for a value: the text of a number, with no digit behind it, is read as that number.
 -- Assumes nothing.
 use mathlib.Core.Path.{_≡_, refl, sym, _∙_, ap, subst}
 use mathlib.Core.Logic.{_↔_}
-use mathlib.Core.Bool.{Bool, true, false, cond}
+use mathlib.Core.Bool.{Bool, true, false, cond, _&&_}
 use mathlib.Core.List.{List, [], _∷_, _++_, append-assoc, append-nil}
 use mathlib.Core.Option.{Option, some, none}
 use Prim.Native.Nat.{ℕ, zero, suc, _+_, _*_, _-_, _/_, _%_, _≤_, _<_}
@@ -14,10 +14,11 @@ use borrow.Author.Tests.{ne-eqb, le-leb, eqb-true, eqb-false, leb-true}
 use Rattle.gid.specs.declared.Update.{Update}
 use Rattle.gid.specs.declared.Update.the-variants.{Step, Terminal, Close}
 use Rattle.gid.specs.Updates.{edge, values}
+use Rattle.gid.specs.Refusals.{maxStates}
 use Rattle.record.specs.declared.line.Form.{Form}
 use Rattle.record.specs.declared.line.Form.the-variants.{Plain, Keyed}
 use Rattle.record.specs.Text.{decimal, keyed, head, field, text, maxValue, KeyWithin, Within}
-use Rattle.record.specs.Grammar.{Front, isDigit, digits, value, behind, whole, keyOf, step, noKey, markWith, update, fields, lineOf, _andThen_}
+use Rattle.record.specs.Grammar.{Front, isDigit, digits, value, behind, whole, keyOf, step, noKey, markWith, update, fields, lineOf, countOf, _andThen_}
 use Rattle.record.proofs.Decimals.{decimal-digit, decimal-more, decimal-then, two-digits, five-digits}
 use Rattle.record.proofs.Indexed.{is-digit, digit-bounds}
 
@@ -304,3 +305,42 @@ line-only f l x e = by (leb (length l) 16) refl e
 -- The grammar and the text are one: a line is an update exactly where it is the update's text, with values within bounds and at most 16 bytes.
 pub line-text : (f : Form) (l : List ℕ) (x : Update) → (lineOf f l ≡ some x) ↔ ((l ≡ text f x) × Within f x × (length l ≤ 16))
 line-text f l x = (line-only f l x, λ h. rw (h .0) (line-back f x (h .1) (rw (h .0) at (h .2))))
+
+-- What is read as a count is the text of its number.
+no-bytes : (l : List ℕ) → length l ≤ 0 → l ≡ []
+no-bytes [] h = refl
+no-bytes (b ∷ l) h = absurd (omega arith)
+
+count-of : (f : Front) (c : ℕ) → cond (leb (length (f .rest)) 0 && (leb 1 (f .number) && leb (f .number) maxStates)) (some (f .number)) none ≡ some c → (f .rest ≡ []) × (f .number ≡ c) × (1 ≤ c) × (c ≤ maxStates)
+count-of f c e = by (leb (length (f .rest)) 0) (leb 1 (f .number)) (leb (f .number) maxStates) refl refl refl e
+  where
+    by : (p q r : Bool) → leb (length (f .rest)) 0 ≡ p → leb 1 (f .number) ≡ q → leb (f .number) maxStates ≡ r → cond (p && (q && r)) (some (f .number)) none ≡ some c → (f .rest ≡ []) × (f .number ≡ c) × (1 ≤ c) × (c ≤ maxStates)
+    by true true true x y z w =
+        let v : f .number ≡ c = cc in
+        (no-bytes (f .rest) (leb-true (length (f .rest)) 0 x), v, omega (arith, leb-true 1 (f .number) y, v), omega (arith, leb-true (f .number) maxStates z, v))
+    by true true false x y z w = absurd (none-some c w)
+    by true false r x y z w = absurd (none-some c w)
+    by false q r x y z w = absurd (none-some c w)
+
+pub count-only : (l : List ℕ) (c : ℕ) → countOf l ≡ some c → (l ≡ decimal c) × (1 ≤ c) × (c ≤ maxStates)
+unfolding countOf Taken
+count-only l c e =
+    let t = taken (value l) (λ f. cond (leb (length (f .rest)) 0 && (leb 1 (f .number) && leb (f .number) maxStates)) (some (f .number)) none) c e in
+    let v = value-taken l (t .0) (t .1) in
+    let w = count-of (t .0) c (t .2) in
+    (v .0 ∙ ap (λ (n : ℕ). decimal n ++ t .0 .rest) (w .1) ∙ ap (λ (r : List ℕ). decimal c ++ r) (w .0) ∙ append-nil (decimal c), w .2, w .3)
+
+pub count-back : (c : ℕ) → 1 ≤ c → c ≤ maxStates → countOf (decimal c) ≡ some c
+unfolding countOf
+count-back c p q = rw (value-last c (omega arith), le-leb 1 c p, le-leb c maxStates q)
+
+-- A line is a count exactly where it is the text of a number from 1 to 2,048.
+pub count-text : (l : List ℕ) (c : ℕ) → (countOf l ≡ some c) ↔ ((l ≡ decimal c) × (1 ≤ c) × (c ≤ maxStates))
+count-text l c = (count-only l c, λ h. rw (h .0) (count-back c (h .1) (h .2)))
+
+pub count-long : (l : List ℕ) → 5 < length l → countOf l ≡ none
+count-long l h = by (countOf l) refl
+  where
+    by : (o : Option ℕ) → countOf l ≡ o → o ≡ none
+    by none e = refl
+    by (some c) e = let w = count-only l c e in absurd (omega (arith, ap length (w .0), five-digits c (omega (arith, w .2))))

@@ -2,7 +2,7 @@
 -- Assumes nothing.
 use mathlib.Core.Path.{_≡_, refl, sym, _∙_, ap, subst}
 use mathlib.Core.Logic.{_⊎_, inl, inr, ⊎-elim}
-use mathlib.Core.Bool.{Bool, true, false, cond}
+use mathlib.Core.Bool.{Bool, true, false, cond, false≢true}
 use mathlib.Core.List.{List, [], _∷_, _++_, append-assoc, append-nil}
 use mathlib.Core.Option.{Option, some, none}
 use Prim.Native.Nat.{ℕ, suc, _+_, _≤_, _<_}
@@ -12,27 +12,40 @@ use native.Mathlib.Decide.{decLt, ℕ-discrete}
 use lib.Dec.{leb, ltb, eqb}
 use lib.ListN.{length, take, drop, set, length-append, length-drop, length-set, drop-of-length-le}
 use lib.Seq.{take-suc-set, drop-drop, drop-at}
-use borrow.Author.Tests.{eq-eqb, ne-eqb, le-leb, lt-leb, leb-true, leb-false, eqb-true, eqb-false, lt-ltb, le-ltb, ltb-true, ltb-false}
+use borrow.Author.Tests.{eq-eqb, ne-eqb, le-leb, lt-leb, leb-true, eqb-true, eqb-false, lt-ltb, le-ltb, ltb-true, ltb-false}
 use Rattle.gid.specs.declared.Update.{Update}
 use Rattle.record.specs.declared.line.Form.{Form}
 use Rattle.record.specs.declared.line.Form.the-variants.{Plain, Keyed}
 use Rattle.record.specs.declared.line.Line.{Line}
+use Rattle.record.specs.declared.grammar.Count.the-variants.{Of as IsCount, Malformed as NotCount}
 use Rattle.record.specs.declared.splitter.Item.{Item}
-use Rattle.record.specs.declared.splitter.Item.the-variants.{Nothing, BadNames, TooMany}
+use Rattle.record.specs.declared.splitter.Item.the-variants.{Nothing, BadNames, TooMany, States, BadCount}
+use Rattle.record.specs.declared.splitter.Phase.{Phase}
+use Rattle.record.specs.declared.splitter.Phase.the-variants.{First, Count, Names, Further}
 use Rattle.record.specs.declared.splitter.Splitter.{Splitter}
 use Rattle.record.specs.declared.splitter.Fed.{Fed}
-use Rattle.record.specs.Text.{names}
-use Rattle.record.specs.Grammar.{lineOf}
+use Rattle.record.specs.Text.{statesLine, names}
+use Rattle.record.specs.Grammar.{value, lineOf, countOf}
 use Rattle.record.specs.Lines.{lines, before}
-use Rattle.record.specs.Items.{same, lineItem, maxLines, further, all, items, itemLine}
-use Rattle.record.specs.Buffer.{emptyLine, withByte, withBytes, lineIn, isNamesIn}
-use Rattle.record.specs.Parsing.{parsed}
-use Rattle.record.specs.Splitting.{at, fed, advanced, started, afterNames, afterFirst, afterFurther, afterLine, afterByte, afterPart, pending, lastNewline, atEnd, told, run, afterBytes, itemOf}
+use Rattle.record.specs.Items.{same, lineItem, maxLines, further, named, countItems, counted, all, items, countIn, itemLine}
+use Rattle.record.specs.Buffer.{emptyLine, withByte, withBytes, filledFrom, lineIn, isNamesIn, isStatesIn, lineCount}
+use Rattle.record.specs.Parsing.{parsed, parsedCount}
+use Rattle.record.specs.Splitting.{at, fed, advanced, started, named as namesFed, afterNames, countFed, afterFirst, afterFurther, inPhase, afterLine, afterByte, afterPart, inHead, awaited, pending, lastNewlines, told, tells, run, afterBytes, itemOf}
 use Rattle.record.proofs.Sameness.{other-length}
+use Rattle.record.proofs.Reading.{count-long}
 
 pub parsed-item : (o : Option Update) (n : ℕ) → itemOf (parsed o) n ≡ lineItem n o
 parsed-item none n = refl
 parsed-item (some x) n = refl
+
+-- what was found of a count line
+pub a-count : (o : Option ℕ) {c : ℕ} → parsedCount o ≡ IsCount c → o ≡ some c
+a-count none e = absurd (let z : _≡_ {A = ℕ} 0 1 = cc in omega arith)
+a-count (some d) e = cc
+
+pub no-count : (o : Option ℕ) → parsedCount o ≡ NotCount → o ≡ none
+no-count none e = refl
+no-count (some d) e = absurd (let z : _≡_ {A = ℕ} 0 1 = cc in omega arith)
 
 -- The buffer b holds a line whose bytes so far are l.
 pub data Holds (b : Line) (l : List ℕ) : Type 0 where
@@ -74,6 +87,16 @@ pub names-held : (f : Form) (b : Line) (l : List ℕ) → Holds b l → isNamesI
 names-held f b l (short p q r s) = rw (le-leb (b .len) 16 (omega arith), q, r)
 names-held f b l (long p q) = rw (lt-leb (b .len) 16 q) (sym (other-length l (names f) (λ e. omega (arith, names-short f))))
 
+-- and so does `states`
+pub states-held : (b : Line) (l : List ℕ) → Holds b l → isStatesIn b ≡ same l statesLine
+states-held b l (short p q r s) = rw (le-leb (b .len) 16 (omega arith), q, r)
+states-held b l (long p q) = rw (lt-leb (b .len) 16 q) (sym (other-length l statesLine (λ e. omega arith)))
+
+-- a count has at most four digits
+pub count-held : (b : Line) (l : List ℕ) → Holds b l → lineCount b ≡ countOf l
+count-held b l (short p q r s) = rw (le-leb (b .len) 16 (omega arith), q, r)
+count-held b l (long p q) = rw (lt-leb (b .len) 16 q) (sym (count-long l (omega arith)))
+
 held-length : (b : Line) (l : List ℕ) → Holds b l → eqb (b .len) 0 ≡ eqb (length l) 0
 held-length b l (short p q r s) = rw q
 held-length b l (long p q) = rw (ne-eqb (b .len) 0 (λ e. omega arith), ne-eqb (length l) 0 (λ e. omega arith))
@@ -93,7 +116,7 @@ unfolding lines
 lines-break s none′ = refl
 lines-break s (more {b = b} {l = l} n u) = rw (ne-eqb b 10 n, lines-break s u)
 
-lines-last : (b : ℕ) (l : List ℕ) → Unbroken (b ∷ l) → lines (b ∷ l) ≡ (b ∷ l) ∷ []
+pub lines-last : (b : ℕ) (l : List ℕ) → Unbroken (b ∷ l) → lines (b ∷ l) ≡ (b ∷ l) ∷ []
 unfolding lines
 lines-last b [] (more n u) = rw (ne-eqb b 10 n)
 lines-last b (c ∷ l) (more n u) = rw (ne-eqb b 10 n, lines-last c l u)
@@ -102,125 +125,241 @@ told-line : (n : ℕ) (o : Option Update) → told (lineItem n o) ≡ lineItem n
 told-line n none = refl
 told-line n (some x) = refl
 
-either-way : (t : Bool) → told (cond t Nothing Nothing) ≡ []
-either-way true = refl
-either-way false = refl
-
 either-true : (t : Bool) → cond t true true ≡ true
 either-true true = refl
 either-true false = refl
 
--- After a 10 or a 12 nothing more is told.
-pub run-stopped : (s : List ℕ) (b : Line) (n : ℕ) (f : Form) → run (at b n true f) s ≡ []
-unfolding run atEnd afterLine afterByte
-run-stopped [] b n f = either-way (pending (at b n true f))
-run-stopped (c ∷ s) b n f = by (eqb c 10) (run-stopped s b n f) (run-stopped s (withByte b c) n f)
+-- Bytes behind bytes.
+pub bytes-then : (s : Splitter) (a b : List ℕ) → afterBytes s (a ++ b) ≡ afterBytes (afterBytes s a) b
+unfolding afterBytes
+bytes-then s [] b = refl
+bytes-then s (c ∷ a) b = bytes-then (afterByte s c .splitter) a b
+
+pub tells-then : (s : Splitter) (a b : List ℕ) → tells s (a ++ b) ≡ tells s a ++ tells (afterBytes s a) b
+unfolding tells afterBytes
+tells-then s [] b = refl
+tells-then s (c ∷ a) b =
+    let t = afterByte s c in
+    ap (λ (x : List Item). told (t .item) ++ x) (tells-then (t .splitter) a b) ∙ sym (append-assoc (told (t .item)) (tells (t .splitter) a) (tells (afterBytes (t .splitter) a) b))
+
+pub run-tells : (s : Splitter) (a b : List ℕ) → run s (a ++ b) ≡ tells s a ++ run (afterBytes s a) b
+unfolding run tells afterBytes
+run-tells s [] b = refl
+run-tells s (c ∷ a) b =
+    let t = afterByte s c in
+    ap (λ (x : List Item). told (t .item) ++ x) (run-tells (t .splitter) a b) ∙ sym (append-assoc (told (t .item)) (tells (t .splitter) a) (run (afterBytes (t .splitter) a) b))
+
+-- After a 10, a 12 or a 17 nothing more is told.
+tells-stopped : (s : List ℕ) (b : Line) (n : ℕ) (p : Phase) → tells (at b n true p) s ≡ []
+unfolding tells afterLine afterByte
+tells-stopped [] b n p = refl
+tells-stopped (c ∷ s) b n p = by (eqb c 10) (tells-stopped s b n p) (tells-stopped s (withByte b c) n p)
   where
-    by : (t : Bool) → run (at b n true f) s ≡ [] → run (at (withByte b c) n true f) s ≡ [] → told (cond t (fed (at b n true f) Nothing) (fed (at (withByte b c) n true f) Nothing) .item) ++ run (cond t (fed (at b n true f) Nothing) (fed (at (withByte b c) n true f) Nothing) .splitter) s ≡ []
+    by : (t : Bool) → tells (at b n true p) s ≡ [] → tells (at (withByte b c) n true p) s ≡ [] → told (cond t (fed (at b n true p) Nothing) (fed (at (withByte b c) n true p) Nothing) .item) ++ tells (cond t (fed (at b n true p) Nothing) (fed (at (withByte b c) n true p) Nothing) .splitter) s ≡ []
+    by true p q = p
+    by false p q = q
+
+pub run-stopped : (s : List ℕ) (b : Line) (n : ℕ) (p : Phase) → run (at b n true p) s ≡ []
+unfolding run afterLine afterByte
+run-stopped [] b n p = tells-stopped (lastNewlines (at b n true p)) b n p
+run-stopped (c ∷ s) b n p = by (eqb c 10) (run-stopped s b n p) (run-stopped s (withByte b c) n p)
+  where
+    by : (t : Bool) → run (at b n true p) s ≡ [] → run (at (withByte b c) n true p) s ≡ [] → told (cond t (fed (at b n true p) Nothing) (fed (at (withByte b c) n true p) Nothing) .item) ++ run (cond t (fed (at b n true p) Nothing) (fed (at (withByte b c) n true p) Nothing) .splitter) s ≡ []
     by true p q = p
     by false p q = q
 
 pub stopped-told : (s : Splitter) → s .stopped ≡ true → (bytes : List ℕ) → run s bytes ≡ []
-stopped-told s e bytes = subst (λ (q : Bool). run (at (s .line) (s .number) q (s .form)) bytes ≡ []) (sym e) (run-stopped bytes (s .line) (s .number) (s .form))
+stopped-told s e bytes = subst (λ (q : Bool). run (at (s .line) (s .number) q (s .phase)) bytes ≡ []) (sym e) (run-stopped bytes (s .line) (s .number) (s .phase))
 
 -- What is told once a line has ended, and behind it.
 onward : Fed → List ℕ → List Item
 onward f s = told (f .item) ++ run (f .splitter) s
 
 -- A byte that is no newline goes to the line.
-run-byte : (c : ℕ) (s : List ℕ) (b : Line) (n : ℕ) (q : Bool) (f : Form) → (c ≡ 10 → ⊥) → run (at b n q f) (c ∷ s) ≡ run (at (withByte b c) n q f) s
+run-byte : (c : ℕ) (s : List ℕ) (b : Line) (n : ℕ) (q : Bool) (p : Phase) → (c ≡ 10 → ⊥) → run (at b n q p) (c ∷ s) ≡ run (at (withByte b c) n q p) s
 unfolding run afterByte
-run-byte c s b n q f h = rw (ne-eqb c 10 h)
+run-byte c s b n q p h = rw (ne-eqb c 10 h)
 
-run-break : (c : ℕ) (s : List ℕ) (b : Line) (n : ℕ) (q : Bool) (f : Form) → c ≡ 10 → run (at b n q f) (c ∷ s) ≡ onward (afterLine (at b n q f)) s
+run-break : (c : ℕ) (s : List ℕ) (b : Line) (n : ℕ) (q : Bool) (p : Phase) → c ≡ 10 → run (at b n q p) (c ∷ s) ≡ onward (afterLine (at b n q p)) s
 unfolding run afterByte onward
-run-break c s b n q f h = rw (eq-eqb c 10 h)
+run-break c s b n q p h = rw (eq-eqb c 10 h)
 
-module _ (f : Form) (n : ℕ) (h : 2 ≤ n) where
+-- What a line leaves that has ended: a line of the head is awaited, or one behind it, or reading has stopped.
+data Ended : Fed → Type 0 where
+  to-count : Ended (fed (at emptyLine 2 false Count) Nothing)
+  to-names : (c : ℕ) → Ended (fed (at emptyLine 3 false Names) (States c))
+  to-further : (n : ℕ) (f : Form) (a : Item) → Ended (fed (at emptyLine n false (Further f)) a)
+  to-none : (b : Line) (n : ℕ) (p : Phase) (a : Item) → Ended (fed (at b n true p) a)
+
+names-ended : (n : ℕ) (b : Line) → Ended (afterNames n b)
+unfolding afterNames
+names-ended n b = by (isNamesIn Plain b) (isNamesIn Keyed b)
+  where
+    by : (t u : Bool) → Ended (cond t (namesFed n Plain) (cond u (namesFed n Keyed) (fed (at emptyLine (n + 1) true Names) (BadNames n))))
+    by true u = to-further (n + 1) Plain Nothing
+    by false true = to-further (n + 1) Keyed Nothing
+    by false false = to-none emptyLine (n + 1) Names (BadNames n)
+
+phase-ended : (p : Phase) (b : Line) (n : ℕ) → Ended (inPhase p b n)
+unfolding inPhase afterFirst afterFurther
+phase-ended First b n = by (isStatesIn b)
+  where
+    by : (t : Bool) → Ended (cond t (fed (at emptyLine 2 false Count) Nothing) (afterNames 1 b))
+    by true = to-count
+    by false = names-ended 1 b
+phase-ended Count b n = by (lineCount b)
+  where
+    by : (o : Option ℕ) → Ended (countFed o)
+    by none = to-none emptyLine 3 Names BadCount
+    by (some c) = to-names c
+phase-ended Names b n = names-ended 3 b
+phase-ended (Further f) b n = by (leb n maxLines)
+  where
+    by : (t : Bool) → Ended (cond t (fed (at emptyLine (n + 1) false (Further f)) (lineItem n (lineIn f b))) (fed (at emptyLine n true (Further f)) TooMany))
+    by true = to-further (n + 1) f (lineItem n (lineIn f b))
+    by false = to-none emptyLine n (Further f) TooMany
+
+line-ended : (s : Splitter) → Ended (afterLine s)
+unfolding afterLine
+line-ended s = by (s .stopped) refl
+  where
+    by : (q : Bool) → s .stopped ≡ q → Ended (cond q (fed s Nothing) (inPhase (s .phase) (s .line) (s .number)))
+    by true e = subst (λ (q : Bool). Ended (fed (at (s .line) (s .number) q (s .phase)) Nothing)) (sym e) (to-none (s .line) (s .number) (s .phase) Nothing)
+    by false e = phase-ended (s .phase) (s .line) (s .number)
+
+-- The newline of a line of the head that is missing.
+abbrev missing : Splitter → List ℕ
+missing s = cond (awaited s) (10 ∷ []) []
+
+missing-told : {f : Fed} → Ended f → run (f .splitter) [] ≡ tells (f .splitter) (missing (f .splitter))
+unfolding run tells lastNewlines pending awaited afterLine inPhase afterNames countOf value same
+missing-told to-count = refl
+missing-told (to-names c) = refl
+missing-told (to-further n f a) = refl
+missing-told (to-none b n p a) = run-stopped [] b n p
+
+missing-over : {f : Fed} → Ended f → run (afterBytes (f .splitter) (missing (f .splitter))) [] ≡ []
+unfolding run tells lastNewlines pending awaited afterLine inPhase afterNames countOf value same afterBytes afterByte
+missing-over to-count = run-stopped [] emptyLine 3 Names
+missing-over (to-names c) = run-stopped [] emptyLine 4 Names
+missing-over (to-further n f a) = refl
+missing-over (to-none b n p a) = run-stopped [] b n p
+
+-- A line that is left is told by the end of the record as by a newline.
+end-told : (s : Splitter) → pending s ≡ true → run s [] ≡ onward (afterLine s) []
+unfolding run tells lastNewlines afterByte onward
+end-told s e = rw e (ap (λ (x : List Item). told (afterLine s .item) ++ x) (sym (missing-told (line-ended s))))
+
+-- Where none is left the end tells nothing.
+idle-told : (s : Splitter) → pending s ≡ false → run s [] ≡ []
+unfolding run tells lastNewlines
+idle-told s e = rw e
+
+module _ (f : Form) where
   -- a further line has ended
-  further-line : (l : List ℕ) (b : Line) → Holds b l → (s : List ℕ) → ((m : ℕ) → 2 ≤ m → run (at emptyLine m false f) s ≡ further f m (lines s)) → onward (afterLine (at b n false f)) s ≡ further f n (l ∷ lines s)
-  unfolding onward afterLine afterFurther further
-  further-line l b k s ih = rw (lt-leb n 1 (omega arith), line-held f b l k) (by (leb n 65535))
+  further-line : (n : ℕ) (l : List ℕ) (b : Line) → Holds b l → (s : List ℕ) → ((m : ℕ) → run (at emptyLine m false (Further f)) s ≡ further f m (lines s)) → onward (afterLine (at b n false (Further f))) s ≡ further f n (l ∷ lines s)
+  unfolding onward afterLine inPhase afterFurther further
+  further-line n l b k s ih = rw (line-held f b l k) (by (leb n 65535))
     where
-      by : (t : Bool) → onward (cond t (fed (at emptyLine (n + 1) false f) (lineItem n (lineOf f l))) (fed (at emptyLine n true f) TooMany)) s ≡ cond t (lineItem n (lineOf f l) ∷ further f (n + 1) (lines s)) (TooMany ∷ [])
-      by true = rw (told-line n (lineOf f l), ih (n + 1) (omega arith)) refl
-      by false = rw (run-stopped s emptyLine n f) refl
+      by : (t : Bool) → onward (cond t (fed (at emptyLine (n + 1) false (Further f)) (lineItem n (lineOf f l))) (fed (at emptyLine n true (Further f)) TooMany)) s ≡ cond t (lineItem n (lineOf f l) ∷ further f (n + 1) (lines s)) (TooMany ∷ [])
+      by true = rw (told-line n (lineOf f l), ih (n + 1)) refl
+      by false = rw (run-stopped s emptyLine n (Further f)) refl
 
   -- the end of the record, in a further line
-  further-told : (l : List ℕ) (b : Line) → Holds b l → told (afterLine (at b n false f) .item) ≡ further f n (l ∷ [])
-  unfolding afterLine afterFurther further
-  further-told l b k = rw (lt-leb n 1 (omega arith), line-held f b l k) (by (leb n 65535))
+  empty-end : (m : ℕ) → run (at emptyLine m false (Further f)) [] ≡ further f m (lines [])
+  unfolding lines further pending awaited
+  empty-end m = idle-told (at emptyLine m false (Further f)) refl
+
+  further-end : (n : ℕ) (l : List ℕ) (b : Line) → Holds b l → Unbroken l → run (at b n false (Further f)) [] ≡ further f n (lines l)
+  unfolding pending awaited lines further
+  further-end n [] b k u = idle-told (at b n false (Further f)) (rw (held-length b [] k))
+  further-end n (x ∷ l) b k u =
+      end-told (at b n false (Further f)) (rw (held-length b (x ∷ l) k, ne-eqb (length (x ∷ l)) 0 (λ e. omega arith))) ∙ further-line n (x ∷ l) b k [] empty-end ∙
+      ap (further f n) (sym (lines-last x l u))
+
+  further-all : (s : List ℕ) (n : ℕ) (l : List ℕ) (b : Line) → Holds b l → Unbroken l → run (at b n false (Further f)) s ≡ further f n (lines (l ++ s))
+  further-all [] n l b k u = rw append-nil (further-end n l b k u)
+  further-all (c ∷ s) n l b k u = by (ℕ-discrete c 10) (further-all s)
     where
-      by : (t : Bool) → told (cond t (fed (at emptyLine (n + 1) false f) (lineItem n (lineOf f l))) (fed (at emptyLine n true f) TooMany) .item) ≡ cond t (lineItem n (lineOf f l) ∷ []) (TooMany ∷ [])
-      by true = told-line n (lineOf f l)
-      by false = refl
+      by : Dec (c ≡ 10) → ((m : ℕ) (l : List ℕ) (b : Line) → Holds b l → Unbroken l → run (at b m false (Further f)) s ≡ further f m (lines (l ++ s))) → run (at b n false (Further f)) (c ∷ s) ≡ further f n (lines (l ++ (c ∷ s)))
+      by (yes e) ih =
+          run-break c s b n false (Further f) e ∙ further-line n l b k s (λ m. ih m [] emptyLine holds-empty none′) ∙ ap (further f n) (sym (lines-break s u) ∙ ap (λ (x : ℕ). lines (l ++ (x ∷ s))) (sym e))
+      by (no e) ih =
+          run-byte c s b n false (Further f) e ∙ ih n (l ++ (c ∷ [])) (withByte b c) (holds-more b l c k) (unbroken-more e u) ∙ ap (λ (x : List ℕ). further f n (lines x)) (append-assoc l (c ∷ []) s)
 
-  further-end : (l : List ℕ) (b : Line) → Holds b l → Unbroken l → run (at b n false f) [] ≡ further f n (lines l)
-  unfolding run atEnd pending lines further
-  further-end [] b k u = rw (held-length b [] k, lt-leb n 1 (omega arith)) refl
-  further-end (x ∷ l) b k u =
-      rw (held-length b (x ∷ l) k, ne-eqb (length (x ∷ l)) 0 (λ e. omega arith), lines-last x l u) (further-told (x ∷ l) b k)
+-- A phase of the head, whose line is judged with those behind it by J: where it is right for a line that has ended, it is right for all bytes. A missing line is judged as an empty one.
+module _ (n : ℕ) (p : Phase) (J : List (List ℕ) → List Item) (waits : inHead p ≡ true)
+    (ends : (l : List ℕ) (b : Line) → Holds b l → (s : List ℕ) → onward (afterLine (at b n false p)) s ≡ J (l ∷ lines s)) (lacks : J [] ≡ J ([] ∷ [])) where
+  head-pending : (b : Line) → pending (at b n false p) ≡ true
+  unfolding pending awaited
+  head-pending b = rw waits (either-true (eqb (b .len) 0))
 
-further-all : (f : Form) (s : List ℕ) (n : ℕ) → 2 ≤ n → (l : List ℕ) (b : Line) → Holds b l → Unbroken l → run (at b n false f) s ≡ further f n (lines (l ++ s))
-further-all f [] n h l b k u = rw append-nil (further-end f n h l b k u)
-further-all f (c ∷ s) n h l b k u = by (ℕ-discrete c 10) (further-all f s)
+  head-end : (l : List ℕ) (b : Line) → Holds b l → Unbroken l → run (at b n false p) [] ≡ J (lines l)
+  unfolding lines
+  head-end [] b k u = end-told (at b n false p) (head-pending b) ∙ ends [] b k [] ∙ sym lacks
+  head-end (x ∷ l) b k u = end-told (at b n false p) (head-pending b) ∙ ends (x ∷ l) b k [] ∙ ap J (sym (lines-last x l u))
+
+  head-all : (s l : List ℕ) (b : Line) → Holds b l → Unbroken l → run (at b n false p) s ≡ J (lines (l ++ s))
+  head-all [] l b k u = rw append-nil (head-end l b k u)
+  head-all (c ∷ s) l b k u = by (ℕ-discrete c 10) (head-all s)
+    where
+      by : Dec (c ≡ 10) → ((l : List ℕ) (b : Line) → Holds b l → Unbroken l → run (at b n false p) s ≡ J (lines (l ++ s))) → run (at b n false p) (c ∷ s) ≡ J (lines (l ++ (c ∷ s)))
+      by (yes e) ih =
+          run-break c s b n false p e ∙ ends l b k s ∙ ap J (sym (lines-break s u) ∙ ap (λ (x : ℕ). lines (l ++ (x ∷ s))) (sym e))
+      by (no e) ih =
+          run-byte c s b n false p e ∙ ih (l ++ (c ∷ [])) (withByte b c) (holds-more b l c k) (unbroken-more e u) ∙ ap (λ (x : List ℕ). J (lines x)) (append-assoc l (c ∷ []) s)
+
+-- the names line has ended
+names-line : (n : ℕ) (l : List ℕ) (b : Line) → Holds b l → (s : List ℕ) → onward (afterNames n b) s ≡ named n (l ∷ lines s)
+unfolding onward afterNames named
+names-line n l b k s = rw (names-held Plain b l k, names-held Keyed b l k) (by (same l (names Plain)) (same l (names Keyed)))
   where
-    by : Dec (c ≡ 10) → ((m : ℕ) → 2 ≤ m → (l : List ℕ) (b : Line) → Holds b l → Unbroken l → run (at b m false f) s ≡ further f m (lines (l ++ s))) → run (at b n false f) (c ∷ s) ≡ further f n (lines (l ++ (c ∷ s)))
-    by (yes e) ih =
-        run-break c s b n false f e ∙ further-line f n h l b k s (λ m p. ih m p [] emptyLine holds-empty none′) ∙ ap (further f n) (sym (lines-break s u) ∙ ap (λ (x : ℕ). lines (l ++ (x ∷ s))) (sym e))
-    by (no e) ih =
-        run-byte c s b n false f e ∙ ih n h (l ++ (c ∷ [])) (withByte b c) (holds-more b l c k) (unbroken-more e u) ∙ ap (λ (x : List ℕ). further f n (lines x)) (append-assoc l (c ∷ []) s)
+    by : (t u : Bool) → onward (cond t (namesFed n Plain) (cond u (namesFed n Keyed) (fed (at emptyLine (n + 1) true Names) (BadNames n)))) s ≡ cond t (further Plain (n + 1) (lines s)) (cond u (further Keyed (n + 1) (lines s)) (BadNames n ∷ []))
+    by true u = further-all Plain s (n + 1) [] emptyLine holds-empty none′
+    by false true = further-all Keyed s (n + 1) [] emptyLine holds-empty none′
+    by false false = rw (run-stopped s emptyLine (n + 1) Names) refl
+
+names-all : (s l : List ℕ) (b : Line) → Holds b l → Unbroken l → run (at b 3 false Names) s ≡ named 3 (lines (l ++ s))
+unfolding afterLine inPhase named same
+names-all = head-all 3 Names (named 3) refl (names-line 3) refl
+
+-- the count has ended
+count-line : (l : List ℕ) (b : Line) → Holds b l → (s : List ℕ) → onward (afterLine (at b 2 false Count)) s ≡ counted (l ∷ lines s)
+unfolding onward afterLine inPhase counted
+count-line l b k s = rw (count-held b l k) (by (countOf l))
+  where
+    by : (o : Option ℕ) → onward (countFed o) s ≡ countItems o (named 3 (lines s))
+    by none = rw (run-stopped s emptyLine 3 Names) refl
+    by (some c) = ap (λ (x : List Item). States c ∷ x) (names-all s [] emptyLine holds-empty none′)
+
+count-all : (s l : List ℕ) (b : Line) → Holds b l → Unbroken l → run (at b 2 false Count) s ≡ counted (lines (l ++ s))
+unfolding counted countOf value
+count-all = head-all 2 Count counted refl count-line refl
 
 -- the first line has ended
-first-line : (f : Form) (l : List ℕ) (b : Line) → Holds b l → (s : List ℕ) → onward (afterLine (at b 1 false f)) s ≡ all (l ∷ lines s)
-unfolding onward afterLine afterFirst all
-first-line f l b k s = rw (names-held Plain b l k, names-held Keyed b l k) (by (same l (names Plain)) (same l (names Keyed)))
+first-line : (l : List ℕ) (b : Line) → Holds b l → (s : List ℕ) → onward (afterLine (at b 1 false First)) s ≡ all (l ∷ lines s)
+unfolding onward afterLine inPhase afterFirst all
+first-line l b k s = rw (states-held b l k) (by (same l statesLine))
   where
-    by : (t u : Bool) → onward (cond t (afterNames Plain) (cond u (afterNames Keyed) (fed (at emptyLine 2 true Plain) BadNames))) s ≡ cond t (further Plain 2 (lines s)) (cond u (further Keyed 2 (lines s)) (BadNames ∷ []))
-    by true u = further-all Plain s 2 (omega arith) [] emptyLine holds-empty none′
-    by false true = further-all Keyed s 2 (omega arith) [] emptyLine holds-empty none′
-    by false false = rw (run-stopped s emptyLine 2 Plain) refl
+    by : (t : Bool) → onward (cond t (fed (at emptyLine 2 false Count) Nothing) (afterNames 1 b)) s ≡ cond t (counted (lines s)) (named 1 (l ∷ lines s))
+    by true = count-all s [] emptyLine holds-empty none′
+    by false = names-line 1 l b k s
 
-first-told : (f : Form) (l : List ℕ) (b : Line) → Holds b l → told (afterLine (at b 1 false f) .item) ≡ all (l ∷ [])
-unfolding afterLine afterFirst all further
-first-told f l b k = rw (names-held Plain b l k, names-held Keyed b l k) (by (same l (names Plain)) (same l (names Keyed)))
-  where
-    by : (t u : Bool) → told (cond t (afterNames Plain) (cond u (afterNames Keyed) (fed (at emptyLine 2 true Plain) BadNames)) .item) ≡ cond t [] (cond u [] (BadNames ∷ []))
-    by true u = refl
-    by false true = refl
-    by false false = refl
-
--- empty input is told apart from a first line that is not the names line by nothing
-no-first : all [] ≡ all ([] ∷ [])
-unfolding all same
-no-first = refl
-
-first-end : (f : Form) (l : List ℕ) (b : Line) → Holds b l → Unbroken l → run (at b 1 false f) [] ≡ all (lines l)
-unfolding run atEnd pending lines
-first-end f [] b k u = rw (either-true (eqb (b .len) 0), no-first) (first-told f [] b k)
-first-end f (x ∷ l) b k u = rw (either-true (eqb (b .len) 0), lines-last x l u) (first-told f (x ∷ l) b k)
-
-first-all : (f : Form) (s l : List ℕ) (b : Line) → Holds b l → Unbroken l → run (at b 1 false f) s ≡ all (lines (l ++ s))
-first-all f [] l b k u = rw append-nil (first-end f l b k u)
-first-all f (c ∷ s) l b k u = by (ℕ-discrete c 10) (first-all f s)
-  where
-    by : Dec (c ≡ 10) → ((l : List ℕ) (b : Line) → Holds b l → Unbroken l → run (at b 1 false f) s ≡ all (lines (l ++ s))) → run (at b 1 false f) (c ∷ s) ≡ all (lines (l ++ (c ∷ s)))
-    by (yes e) ih =
-        run-break c s b 1 false f e ∙ first-line f l b k s ∙ ap all (sym (lines-break s u) ∙ ap (λ (x : ℕ). lines (l ++ (x ∷ s))) (sym e))
-    by (no e) ih =
-        run-byte c s b 1 false f e ∙ ih (l ++ (c ∷ [])) (withByte b c) (holds-more b l c k) (unbroken-more e u) ∙ ap (λ (x : List ℕ). all (lines x)) (append-assoc l (c ∷ []) s)
+first-all : (s l : List ℕ) (b : Line) → Holds b l → Unbroken l → run (at b 1 false First) s ≡ all (lines (l ++ s))
+unfolding all named same
+first-all = head-all 1 First all refl first-line refl
 
 -- A record of any bytes and any length, fed byte by byte from the start to its end: the answers that say something are its items.
 pub run-items : (s : List ℕ) → run started s ≡ items s
 unfolding items
-run-items s = first-all Plain s [] emptyLine holds-empty none′
+run-items s = first-all s [] emptyLine holds-empty none′
 
 -- Where bytes have a newline, and that there is none before it.
-Broken : List ℕ → Type 0
+abbrev pub Broken : List ℕ → Type 0
 Broken t = (before t ≡ t) ⊎ ((u : List ℕ) × (t ≡ before t ++ (10 ∷ u)))
 
-broken : (t : List ℕ) → Unbroken (before t) × Broken t
-unfolding before Broken
+pub broken : (t : List ℕ) → Unbroken (before t) × Broken t
+unfolding before
 broken [] = (none′, inl refl)
 broken (c ∷ t) = by (eqb c 10) refl (broken t)
   where
@@ -229,144 +368,136 @@ broken (c ∷ t) = by (eqb c 10) refl (broken t)
     by false e h =
         (more (eqb-false c 10 e) (h .0), ⊎-elim (λ p. inl (ap (λ (l : List ℕ). c ∷ l) p)) (λ p. inr (p .0, ap (λ (l : List ℕ). c ∷ l) (p .1))) (h .1))
 
--- What bytes come to, F, and what they come to once a line has ended, G: a byte that is no newline goes to the line, and a newline ends it.
-module _ {A : Type 0} (F : Splitter → List ℕ → A) (G : Fed → List ℕ → A)
-    (goes : (c : ℕ) (s : List ℕ) (b : Line) (n : ℕ) (q : Bool) (f : Form) → (c ≡ 10 → ⊥) → F (at b n q f) (c ∷ s) ≡ F (at (withByte b c) n q f) s)
-    (breaks : (c : ℕ) (s : List ℕ) (b : Line) (n : ℕ) (q : Bool) (f : Form) → c ≡ 10 → F (at b n q f) (c ∷ s) ≡ G (afterLine (at b n q f)) s)
-    (quiet : (t : Splitter) (s : List ℕ) → F t s ≡ G (fed t Nothing) s) where
-  -- Bytes up to a newline go to the line.
-  unbroken-goes : {u : List ℕ} (s : List ℕ) (b : Line) (n : ℕ) (q : Bool) (f : Form) → Unbroken u → F (at b n q f) (u ++ s) ≡ F (at (withBytes b u) n q f) s
-  unfolding withBytes
-  unbroken-goes s b n q f none′ = refl
-  unbroken-goes s b n q f (more {b = c} {l = l} h u) = goes c (l ++ s) b n q f h ∙ unbroken-goes s (withByte b c) n q f u
+-- Bytes up to a newline go to the line, and tell nothing.
+unbroken-goes : {u : List ℕ} (b : Line) (n : ℕ) (q : Bool) (p : Phase) → Unbroken u → (tells (at b n q p) u ≡ []) × (afterBytes (at b n q p) u ≡ at (withBytes b u) n q p)
+unfolding tells afterBytes afterByte withBytes
+unbroken-goes b n q p none′ = (refl, refl)
+unbroken-goes b n q p (more {b = c} {l = l} h u) = rw (ne-eqb c 10 h) (unbroken-goes (withByte b c) n q p u)
 
-  module _ (s : Splitter) (l r : List ℕ) (i : ℕ) where
-    -- What feeding up to the end of a line says of the bytes fed one by one.
-    Parted : Type 0
-    Parted = F s (drop i l ++ r) ≡ G (fed (afterPart s l i .splitter) (afterPart s l i .item)) (drop (afterPart s l i .next) l ++ r)
+-- Feeding up to the end of a line, at once, is feeding the bytes up to it one by one.
+pub record Parted (s : Splitter) (l : List ℕ) (i : ℕ) : Type 0 where
+  pub read : List ℕ
+  pub split : drop i l ≡ read ++ drop (afterPart s l i .next) l
+  pub tells : tells s read ≡ told (afterPart s l i .item)
+  pub after : afterPart s l i .splitter ≡ afterBytes s read
 
-    unended : (t : List ℕ) → drop i l ≡ t → before t ≡ t → Unbroken (before t) → Parted
-    unfolding afterPart Parted
-    unended t d e u =
-        let n : length l ≤ i + length (before t) = omega (arith, length-drop i l, ap length d, ap length e) in
-        rw (d, le-ltb (i + length (before t)) (length l) n, drop-of-length-le l n)
-        (ap (λ (x : List ℕ). F s (x ++ r)) (sym e) ∙
-        unbroken-goes r (s .line) (s .number) (s .stopped) (s .form) u ∙
-        quiet (at (withBytes (s .line) (before t)) (s .number) (s .stopped) (s .form)) r)
+module _ (s : Splitter) (l : List ℕ) (i : ℕ) where
+  unended : (t : List ℕ) → drop i l ≡ t → before t ≡ t → Unbroken (before t) → Parted s l i
+  unfolding afterPart
+  unended t d e u =
+      let n : length l ≤ i + length (before t) = omega (arith, length-drop i l, ap length d, ap length e) in
+      let g = unbroken-goes (s .line) (s .number) (s .stopped) (s .phase) u in
+      record {
+        read = before t;
+        split = rw (d, le-ltb (i + length (before t)) (length l) n, drop-of-length-le l n) (sym e ∙ sym (append-nil (before t)));
+        tells = rw (d, le-ltb (i + length (before t)) (length l) n) (g .0);
+        after = rw (d, le-ltb (i + length (before t)) (length l) n) (sym (g .1));
+      }
 
-    ended : (t u : List ℕ) → drop i l ≡ t → t ≡ before t ++ (10 ∷ u) → Unbroken (before t) → Parted
-    unfolding afterPart Parted
-    ended t u d e k =
-        let m : length t ≡ length (before t) + suc (length u) = ap length e ∙ length-append (before t) (10 ∷ u) in
-        let n : i + length (before t) < length l = omega (arith, length-drop i l, ap length d) in
-        rw (d, lt-ltb (i + length (before t)) (length l) n, behind)
-        (ap (λ (x : List ℕ). F s (x ++ r)) e ∙
-        ap (F s) (append-assoc (before t) (10 ∷ u) r) ∙
-        unbroken-goes (10 ∷ u ++ r) (s .line) (s .number) (s .stopped) (s .form) k ∙
-        breaks 10 (u ++ r) (withBytes (s .line) (before t)) (s .number) (s .stopped) (s .form) refl)
-      where
-        behind : drop (i + length (before t) + 1) l ≡ u
-        behind =
-            let z : i + length (before t) + 1 ≡ i + (length (before t) + 1) = omega arith in
-            ap (λ (x : ℕ). drop x l) z ∙
-            sym (drop-drop (length (before t) + 1) i l) ∙
-            ap (drop (length (before t) + 1)) (d ∙ e ∙ sym (append-assoc (before t) (10 ∷ []) u)) ∙
-            drop-at (before t ++ (10 ∷ [])) u (length (before t) + 1) (length-append (before t) (10 ∷ []))
+  ended : (t u : List ℕ) → drop i l ≡ t → t ≡ before t ++ (10 ∷ u) → Unbroken (before t) → Parted s l i
+  unfolding afterPart tells afterBytes afterByte
+  ended t u d e k =
+      let m : length t ≡ length (before t) + suc (length u) = ap length e ∙ length-append (before t) (10 ∷ u) in
+      let n : i + length (before t) < length l = omega (arith, length-drop i l, ap length d) in
+      let g = unbroken-goes (s .line) (s .number) (s .stopped) (s .phase) k in
+      let b = at (withBytes (s .line) (before t)) (s .number) (s .stopped) (s .phase) in
+      record {
+        read = before t ++ (10 ∷ []);
+        split = rw (d, lt-ltb (i + length (before t)) (length l) n, behind) (e ∙ sym (append-assoc (before t) (10 ∷ []) u));
+        tells =
+            rw (d, lt-ltb (i + length (before t)) (length l) n)
+            (tells-then s (before t) (10 ∷ []) ∙ ap (λ (x : List Item). x ++ tells (afterBytes s (before t)) (10 ∷ [])) (g .0) ∙ ap (λ (x : Splitter). tells x (10 ∷ [])) (g .1) ∙ append-nil (told (afterLine b .item)));
+        after =
+            rw (d, lt-ltb (i + length (before t)) (length l) n)
+            (sym (bytes-then s (before t) (10 ∷ []) ∙ ap (λ (x : Splitter). afterBytes x (10 ∷ [])) (g .1)));
+      }
+    where
+      behind : drop (i + length (before t) + 1) l ≡ u
+      behind =
+          let z : i + length (before t) + 1 ≡ i + (length (before t) + 1) = omega arith in
+          ap (λ (x : ℕ). drop x l) z ∙
+          sym (drop-drop (length (before t) + 1) i l) ∙
+          ap (drop (length (before t) + 1)) (d ∙ e ∙ sym (append-assoc (before t) (10 ∷ []) u)) ∙
+          drop-at (before t ++ (10 ∷ [])) u (length (before t) + 1) (length-append (before t) (10 ∷ []))
 
-    -- Feeding up to the end of a line, at once, is feeding the bytes one by one.
-    parted : F s (drop i l ++ r) ≡ G (fed (afterPart s l i .splitter) (afterPart s l i .item)) (drop (afterPart s l i .next) l ++ r)
-    unfolding Parted Broken
-    parted = ⊎-elim (λ e. unended (drop i l) refl e (broken (drop i l) .0)) (λ e. ended (drop i l) (e .0) refl (e .1) (broken (drop i l) .0)) (broken (drop i l) .1)
+  pub parted : Parted s l i
+  parted = ⊎-elim (λ e. unended (drop i l) refl e (broken (drop i l) .0)) (λ e. ended (drop i l) (e .0) refl (e .1) (broken (drop i l) .0)) (broken (drop i l) .1)
 
--- What is told,
-pub run-part : (s : Splitter) (l r : List ℕ) (i : ℕ) → run s (drop i l ++ r) ≡ told (afterPart s l i .item) ++ run (afterPart s l i .splitter) (drop (afterPart s l i .next) l ++ r)
-unfolding onward
-run-part s l r i = parted run onward run-byte run-break (λ t x. refl) s l r i
-
--- and where the splitter stands.
-byte-goes : (c : ℕ) (s : List ℕ) (b : Line) (n : ℕ) (q : Bool) (f : Form) → (c ≡ 10 → ⊥) → afterBytes (at b n q f) (c ∷ s) ≡ afterBytes (at (withByte b c) n q f) s
-unfolding afterBytes afterByte
-byte-goes c s b n q f h = rw (ne-eqb c 10 h)
-
-byte-breaks : (c : ℕ) (s : List ℕ) (b : Line) (n : ℕ) (q : Bool) (f : Form) → c ≡ 10 → afterBytes (at b n q f) (c ∷ s) ≡ afterBytes (afterLine (at b n q f) .splitter) s
-unfolding afterBytes afterByte
-byte-breaks c s b n q f h = rw (eq-eqb c 10 h)
-
-pub part-bytes : (s : Splitter) (l : List ℕ) (i : ℕ) → afterBytes s (drop i l) ≡ afterBytes (afterPart s l i .splitter) (drop (afterPart s l i .next) l)
-part-bytes s l i =
-    ap (afterBytes s) (sym (append-nil (drop i l))) ∙
-    parted afterBytes (λ f x. afterBytes (f .splitter) x) byte-goes byte-breaks (λ t x. refl) s l [] i ∙
-    ap (afterBytes (afterPart s l i .splitter)) (append-nil (drop (afterPart s l i .next) l))
-
--- Once a line has ended, the end of the record tells nothing more.
-line-over : (s : Splitter) → told (atEnd (afterLine s .splitter)) ≡ []
-unfolding run atEnd pending afterLine afterFirst afterFurther
-line-over s = by (s .stopped) refl
-  where
-    first : Bool → Bool → Fed
-    first p q = cond p (afterNames Plain) (cond q (afterNames Keyed) (fed (at emptyLine 2 true Plain) BadNames))
-
-    next : Bool → Fed
-    next p = cond p (fed (at emptyLine (s .number + 1) false (s .form)) (lineItem (s .number) (lineIn (s .form) (s .line)))) (fed (at emptyLine (s .number) true (s .form)) TooMany)
-
-    further-over : (p : Bool) → leb (s .number) 1 ≡ false → told (atEnd (next p .splitter)) ≡ []
-    further-over true e = let z : 1 < s .number + 1 = omega (arith, leb-false (s .number) 1 e) in rw (lt-leb (s .number + 1) 1 z)
-    further-over false e = rw e
-
-    line : (p q r : Bool) → leb (s .number) 1 ≡ p → told (atEnd (cond p (first q r) (next (leb (s .number) 65535)) .splitter)) ≡ []
-    line true true r e = refl
-    line true false true e = refl
-    line true false false e = refl
-    line false q r e = further-over (leb (s .number) 65535) e
-
-    by : (p : Bool) → s .stopped ≡ p → told (atEnd (cond p (fed s Nothing) (cond (leb (s .number) 1) (first (isNamesIn Plain (s .line)) (isNamesIn Keyed (s .line))) (next (leb (s .number) 65535))) .splitter)) ≡ []
-    by true e = subst (λ (q : Bool). run (at (s .line) (s .number) q (s .form)) [] ≡ []) (sym e) (run-stopped [] (s .line) (s .number) (s .form))
-    by false e = line (leb (s .number) 1) (isNamesIn Plain (s .line)) (isNamesIn Keyed (s .line)) refl
-
--- A line that is left is told by a newline as by the end of the record, and nothing is left behind it.
-pending-told : (s : Splitter) → pending s ≡ true → run s (10 ∷ []) ≡ run s []
-unfolding run afterByte atEnd
-pending-told s e = rw (e, line-over s, append-nil (told (afterLine s .item)))
-
-over-told : (s : Splitter) → run (afterBytes s (10 ∷ [])) [] ≡ []
-unfolding run afterBytes afterByte
-over-told s = line-over s
-
--- Where none is left the end tells nothing.
-idle-told : (s : Splitter) → pending s ≡ false → run s [] ≡ []
-unfolding run atEnd
-idle-told s e = rw e
-
--- So the record's end is the newline that its last line lacks.
-pub last-told : (s : Splitter) → run s (lastNewline s) ≡ run s []
-last-told s = by (pending s) refl
-  where
-    by : (q : Bool) → pending s ≡ q → run s (cond q (10 ∷ []) []) ≡ run s []
-    by true e = pending-told s e
-    by false e = refl
-
-pub last-over : (s : Splitter) → run (afterBytes s (lastNewline s)) [] ≡ []
-unfolding afterBytes
+-- So the record's end is the newlines that it lacks,
+pub last-over : (s : Splitter) → run (afterBytes s (lastNewlines s)) [] ≡ []
+unfolding afterBytes afterByte lastNewlines
 last-over s = by (pending s) refl
   where
-    by : (q : Bool) → pending s ≡ q → run (afterBytes s (cond q (10 ∷ []) [])) [] ≡ []
-    by true e = over-told s
+    by : (q : Bool) → pending s ≡ q → run (afterBytes s (cond q (10 ∷ missing (afterLine s .splitter)) [])) [] ≡ []
+    by true e = missing-over (line-ended s)
     by false e = idle-told s e
 
-pub last-short : (s : Splitter) → length (lastNewline s) ≤ 1
-last-short s = by (pending s)
-  where
-    by : (q : Bool) → length {A = ℕ} (cond q (10 ∷ []) []) ≤ 1
-    by true = omega arith
-    by false = omega arith
+pub last-told : (s : Splitter) → run s (lastNewlines s) ≡ run s []
+unfolding run
+last-told s =
+    let n = lastNewlines s in
+    ap (run s) (sym (append-nil n)) ∙ run-tells s n [] ∙ ap (λ (x : List Item). tells s n ++ x) (last-over s) ∙ append-nil (tells s n)
 
--- a part of a newline
-pub last-part : (s : Splitter) (n : ℕ) → n ≡ length (lastNewline s) → take {A = ℕ} n (10 ∷ []) ≡ lastNewline s
-last-part s n e = rw e (by (pending s))
+-- which are two at most,
+pub last-short : (s : Splitter) → length (lastNewlines s) ≤ 2
+unfolding lastNewlines
+last-short s = by (pending s) (awaited (afterLine s .splitter))
   where
-    by : (q : Bool) → take {A = ℕ} (length {A = ℕ} (cond q (10 ∷ []) [])) (10 ∷ []) ≡ cond q (10 ∷ []) []
-    by true = refl
-    by false = refl
+    by : (q r : Bool) → length {A = ℕ} (cond q (10 ∷ cond r (10 ∷ []) []) []) ≤ 2
+    by true true = omega arith
+    by true false = omega arith
+    by false r = omega arith
+
+pub last-part : (s : Splitter) (n : ℕ) → n ≡ length (lastNewlines s) → take {A = ℕ} n (10 ∷ 10 ∷ []) ≡ lastNewlines s
+unfolding lastNewlines
+last-part s n e = rw e (by (pending s) (awaited (afterLine s .splitter)))
+  where
+    by : (q r : Bool) → take {A = ℕ} (length {A = ℕ} (cond q (10 ∷ cond r (10 ∷ []) []) [])) (10 ∷ 10 ∷ []) ≡ cond q (10 ∷ cond r (10 ∷ []) []) []
+    by true true = refl
+    by true false = refl
+    by false r = refl
+
+-- and of two the first refuses nothing: it ends `states`, or a count.
+pub data Mild : List Item → Type 0 where
+  silent : Mild []
+  counts : (c : ℕ) → Mild (States c ∷ [])
+
+mild : {f : Fed} → Ended f → awaited (f .splitter) ≡ true → Mild (told (f .item) ++ [])
+unfolding awaited
+mild to-count e = silent
+mild (to-names c) e = counts c
+mild (to-further n f a) e = absurd (false≢true e)
+mild (to-none b n p a) e = absurd (false≢true e)
+
+pub first-mild : (s : Splitter) → length (lastNewlines s) ≡ 2 → Mild (tells s (10 ∷ []))
+unfolding lastNewlines tells afterByte
+first-mild s e = by (pending s) (awaited (afterLine s .splitter)) refl e
+  where
+    by : (q r : Bool) → awaited (afterLine s .splitter) ≡ r → length {A = ℕ} (cond q (10 ∷ cond r (10 ∷ []) []) []) ≡ 2 → Mild (told (afterLine s .item) ++ [])
+    by true true w h = mild (line-ended s) w
+    by true false w h = absurd (omega arith)
+    by false r w h = absurd (omega arith)
+
+-- Both tell one refusal: the count, or the names line, is missing.
+pub data Lacks : List Item → Type 0 where
+  no-count′ : Lacks (BadCount ∷ [])
+  no-names′ : (c : ℕ) → Lacks (States c ∷ BadNames 3 ∷ [])
+
+lacks : {f : Fed} → Ended f → awaited (f .splitter) ≡ true → Lacks (told (f .item) ++ tells (f .splitter) (10 ∷ []))
+unfolding awaited tells afterByte afterLine inPhase afterNames countOf value same
+lacks to-count e = no-count′
+lacks (to-names c) e = no-names′ c
+lacks (to-further n f a) e = absurd (false≢true e)
+lacks (to-none b n p a) e = absurd (false≢true e)
+
+pub both-lack : (s : Splitter) → length (lastNewlines s) ≡ 2 → Lacks (tells s (lastNewlines s))
+unfolding lastNewlines tells afterByte
+both-lack s e = by (pending s) (awaited (afterLine s .splitter)) refl e
+  where
+    by : (q r : Bool) → awaited (afterLine s .splitter) ≡ r → length {A = ℕ} (cond q (10 ∷ cond r (10 ∷ []) []) []) ≡ 2 → Lacks (tells s (cond q (10 ∷ cond r (10 ∷ []) []) []))
+    by true true w h = lacks (line-ended s) w
+    by true false w h = absurd (omega arith)
+    by false r w h = absurd (omega arith)
 
 before-length : (t : List ℕ) → length (before t) ≤ length t
 unfolding before
@@ -383,7 +514,7 @@ unfolding afterPart
 part-next s l i h = by (ltb (i + length (before (drop i l))) (length l)) refl
   where
     t : Splitter
-    t = at (withBytes (s .line) (before (drop i l))) (s .number) (s .stopped) (s .form)
+    t = at (withBytes (s .line) (before (drop i l))) (s .number) (s .stopped) (s .phase)
 
     k : ℕ
     k = i + length (before (drop i l))
@@ -400,24 +531,48 @@ line-line : (n : ℕ) (o : Option Update) → itemLine (lineItem n o) ≡ n
 line-line n none = refl
 line-line n (some x) = refl
 
-ended-line : (s : Splitter) → itemLine (afterLine s .item) ≤ maxLines + 1
-unfolding afterLine afterFirst afterFurther
-ended-line s = by (s .stopped) (leb (s .number) 1) (isNamesIn Plain (s .line)) (isNamesIn Keyed (s .line)) (leb (s .number) maxLines) refl
+names-at : (n : ℕ) (b : Line) → n ≤ 3 → itemLine (afterNames n b .item) ≤ maxLines + 1
+unfolding afterNames
+names-at n b h = by (isNamesIn Plain b) (isNamesIn Keyed b)
   where
-    by : (p q r v u : Bool) → leb (s .number) maxLines ≡ u → itemLine (cond p (fed s Nothing) (cond q (cond r (afterNames Plain) (cond v (afterNames Keyed) (fed (at emptyLine 2 true Plain) BadNames))) (cond u (fed (at emptyLine (s .number + 1) false (s .form)) (lineItem (s .number) (lineIn (s .form) (s .line)))) (fed (at emptyLine (s .number) true (s .form)) TooMany))) .item) ≤ maxLines + 1
-    by true q r v u e = omega arith
-    by false true true v u e = omega arith
-    by false true false true u e = omega arith
-    by false true false false u e = omega arith
-    by false false r v true e = omega (arith, line-line (s .number) (lineIn (s .form) (s .line)), leb-true (s .number) maxLines e)
-    by false false r v false e = omega arith
+    by : (t u : Bool) → itemLine (cond t (namesFed n Plain) (cond u (namesFed n Keyed) (fed (at emptyLine (n + 1) true Names) (BadNames n))) .item) ≤ maxLines + 1
+    by true u = omega arith
+    by false true = omega arith
+    by false false = omega arith
+
+phase-at : (p : Phase) (b : Line) (n : ℕ) → itemLine (inPhase p b n .item) ≤ maxLines + 1
+unfolding inPhase afterFirst afterFurther
+phase-at First b n = by (isStatesIn b)
+  where
+    by : (t : Bool) → itemLine (cond t (fed (at emptyLine 2 false Count) Nothing) (afterNames 1 b) .item) ≤ maxLines + 1
+    by true = omega arith
+    by false = names-at 1 b (omega arith)
+phase-at Count b n = by (lineCount b)
+  where
+    by : (o : Option ℕ) → itemLine (countFed o .item) ≤ maxLines + 1
+    by none = omega arith
+    by (some c) = omega arith
+phase-at Names b n = names-at 3 b (omega arith)
+phase-at (Further f) b n = by (leb n maxLines) refl
+  where
+    by : (u : Bool) → leb n maxLines ≡ u → itemLine (cond u (fed (at emptyLine (n + 1) false (Further f)) (lineItem n (lineIn f b))) (fed (at emptyLine n true (Further f)) TooMany) .item) ≤ maxLines + 1
+    by true e = omega (arith, line-line n (lineIn f b), leb-true n maxLines e)
+    by false e = omega arith
+
+ended-line : (s : Splitter) → itemLine (afterLine s .item) ≤ maxLines + 1
+unfolding afterLine
+ended-line s = by (s .stopped)
+  where
+    by : (q : Bool) → itemLine (cond q (fed s Nothing) (inPhase (s .phase) (s .line) (s .number)) .item) ≤ maxLines + 1
+    by true = omega arith
+    by false = phase-at (s .phase) (s .line) (s .number)
 
 pub part-line : (s : Splitter) (l : List ℕ) (i : ℕ) → itemLine (afterPart s l i .item) ≤ maxLines + 1
 unfolding afterPart
 part-line s l i = by (ltb (i + length (before (drop i l))) (length l))
   where
     t : Splitter
-    t = at (withBytes (s .line) (before (drop i l))) (s .number) (s .stopped) (s .form)
+    t = at (withBytes (s .line) (before (drop i l))) (s .number) (s .stopped) (s .phase)
 
     by : (q : Bool) → itemLine (cond q (advanced (afterLine t) (i + length (before (drop i l)) + 1)) (advanced (fed t Nothing) (i + length (before (drop i l)))) .item) ≤ maxLines + 1
     by true = ended-line t

@@ -10,8 +10,8 @@ use Rattle.gid.specs.declared.Update.{Update}
 use Rattle.record.specs.declared.line.Form.{Form}
 use Rattle.record.specs.declared.line.Line.{Line}
 use Rattle.record.specs.declared.line.Filled.{Filled}
-use Rattle.record.specs.Text.{names}
-use Rattle.record.specs.Grammar.{lineOf}
+use Rattle.record.specs.Text.{statesLine, names}
+use Rattle.record.specs.Grammar.{lineOf, countOf}
 use Rattle.record.specs.Lines.{before}
 use Rattle.record.specs.Items.{same}
 
@@ -42,3 +42,10 @@ lineIn f = ofBytes (lineOf f) none
 -- Whether it is the names line of a form.
 abbrev pub isNamesIn : Form → Line → Bool
 isNamesIn f = ofBytes (λ l. same l (names f)) false
+
+-- Whether it is the line `states`, and which count it is.
+abbrev pub isStatesIn : Line → Bool
+isStatesIn = ofBytes (λ l. same l statesLine) false
+
+abbrev pub lineCount : Line → Option ℕ
+lineCount = ofBytes countOf none

@@ -1,4 +1,4 @@
--- What the bytes of a line are: an update, or none, where the line is malformed. Document 01, "The record"; document 02, #101. proofs/Reading.antt proves that these are the texts of updates and nothing else.
+-- What the bytes of a line are: an update, or none, where the line is malformed; and the count of a record's states. Document 01, "The record"; document 02, #101 and #107. proofs/Reading.antt proves that these are the texts of updates and of counts, and nothing else.
 -- Assumes nothing.
 use mathlib.Core.Bool.{Bool, cond, _&&_}
 use mathlib.Core.List.{List, [], _∷_}
@@ -9,6 +9,7 @@ use lib.ListN.{length}
 use Rattle.gid.specs.declared.Update.{Update}
 use Rattle.gid.specs.declared.Update.the-variants.{Step, Terminal, Close}
 use Rattle.gid.specs.Updates.{edge}
+use Rattle.gid.specs.Refusals.{maxStates}
 use Rattle.record.specs.declared.line.Form.{Form}
 use Rattle.record.specs.declared.line.Form.the-variants.{Plain, Keyed}
 use Rattle.record.specs.Text.{maxValue}
@@ -81,3 +82,7 @@ fields f (kind ∷ l) = behind 32 l andThen value andThen λ from. behind 32 (fr
 -- "A line of more than 16 bytes, a blank line or a carriage return is malformed."
 unfoldable pub lineOf : Form → List ℕ → Option Update
 lineOf f l = cond (leb (length l) 16) (fields f l) none
+
+-- "a line with the count", which is "a number from 1 to 2,048": a value, and the line ends behind it.
+unfoldable pub countOf : List ℕ → Option ℕ
+countOf l = value l andThen λ c. cond (leb (length (c .rest)) 0 && (leb 1 (c .number) && leb (c .number) maxStates)) (some (c .number)) none

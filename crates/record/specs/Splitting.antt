@@ -2,6 +2,7 @@
 -- Assumes nothing.
 use mathlib.Core.Bool.{Bool, true, false, cond}
 use mathlib.Core.List.{List, [], _∷_, _++_}
+use mathlib.Core.Option.{Option, some, none}
 use Prim.Native.Nat.{ℕ, _+_}
 use lib.Dec.{leb, ltb, eqb}
 use lib.ListN.{length}
@@ -11,15 +12,17 @@ use Rattle.record.specs.declared.line.Line.{Line}
 use Rattle.record.specs.declared.grammar.Parsed.{Parsed}
 use Rattle.record.specs.declared.grammar.Parsed.the-variants.{Update as IsUpdate, Malformed as IsMalformed}
 use Rattle.record.specs.declared.splitter.Item.{Item}
-use Rattle.record.specs.declared.splitter.Item.the-variants.{Nothing, Update as Read, Malformed, BadNames, TooMany}
+use Rattle.record.specs.declared.splitter.Item.the-variants.{Nothing, Update as Read, Malformed, BadNames, TooMany, States, BadCount}
+use Rattle.record.specs.declared.splitter.Phase.{Phase}
+use Rattle.record.specs.declared.splitter.Phase.the-variants.{First, Count, Names, Further}
 use Rattle.record.specs.declared.splitter.Splitter.{Splitter}
 use Rattle.record.specs.declared.splitter.Fed.{Fed}
 use Rattle.record.specs.declared.splitter.Advanced.{Advanced}
 use Rattle.record.specs.Items.{lineItem, maxLines}
-use Rattle.record.specs.Buffer.{emptyLine, withByte, filledFrom, lineIn, isNamesIn}
+use Rattle.record.specs.Buffer.{emptyLine, withByte, filledFrom, lineIn, isNamesIn, isStatesIn, lineCount}
 
-abbrev pub at : Line → ℕ → Bool → Form → Splitter
-at l n stopped f = record { line = l; number = n; stopped = stopped; form = f }
+abbrev pub at : Line → ℕ → Bool → Phase → Splitter
+at l n stopped p = record { line = l; number = n; stopped = stopped; phase = p }
 
 abbrev pub fed : Splitter → Item → Fed
 fed s a = record { splitter = s; item = a }
@@ -28,54 +31,84 @@ abbrev pub advanced : Fed → ℕ → Advanced
 advanced f i = record { splitter = f .splitter; item = f .item; next = i }
 
 abbrev pub started : Splitter
-started = at emptyLine 1 false Plain
+started = at emptyLine 1 false First
 
--- The first line has ended: the names line, which gives the form.
-abbrev pub afterNames : Form → Fed
-afterNames f = fed (at emptyLine 2 false f) Nothing
+-- The names line, line n, has ended: it gives the form.
+abbrev pub named : ℕ → Form → Fed
+named n f = fed (at emptyLine (n + 1) false (Further f)) Nothing
 
+unfoldable pub afterNames : ℕ → Line → Fed
+afterNames n l = cond (isNamesIn Plain l) (named n Plain) (cond (isNamesIn Keyed l) (named n Keyed) (fed (at emptyLine (n + 1) true Names) (BadNames n)))
+
+-- Line 2 has ended, behind `states`.
+abbrev pub countFed : Option ℕ → Fed
+countFed none = fed (at emptyLine 3 true Names) BadCount
+countFed (some c) = fed (at emptyLine 3 false Names) (States c)
+
+-- The first line has ended: `states`, or the names line.
 unfoldable pub afterFirst : Line → Fed
-afterFirst l = cond (isNamesIn Plain l) (afterNames Plain) (cond (isNamesIn Keyed l) (afterNames Keyed) (fed (at emptyLine 2 true Plain) BadNames))
+afterFirst l = cond (isStatesIn l) (fed (at emptyLine 2 false Count) Nothing) (afterNames 1 l)
 
 -- A further line has ended.
 unfoldable pub afterFurther : Form → Line → ℕ → Fed
-afterFurther f l n = cond (leb n maxLines) (fed (at emptyLine (n + 1) false f) (lineItem n (lineIn f l))) (fed (at emptyLine n true f) TooMany)
+afterFurther f l n = cond (leb n maxLines) (fed (at emptyLine (n + 1) false (Further f)) (lineItem n (lineIn f l))) (fed (at emptyLine n true (Further f)) TooMany)
+
+-- By the phase: the lines of the head stand at 1, 2 and 3.
+unfoldable pub inPhase : Phase → Line → ℕ → Fed
+inPhase First l n = afterFirst l
+inPhase Count l n = countFed (lineCount l)
+inPhase Names l n = afterNames 3 l
+inPhase (Further f) l n = afterFurther f l n
 
 unfoldable pub afterLine : Splitter → Fed
-afterLine s = cond (s .stopped) (fed s Nothing) (cond (leb (s .number) 1) (afterFirst (s .line)) (afterFurther (s .form) (s .line) (s .number)))
+afterLine s = cond (s .stopped) (fed s Nothing) (inPhase (s .phase) (s .line) (s .number))
 
 unfoldable pub afterByte : Splitter → ℕ → Fed
-afterByte s b = cond (eqb b 10) (afterLine s) (fed (at (withByte (s .line) b) (s .number) (s .stopped) (s .form)) Nothing)
+afterByte s b = cond (eqb b 10) (afterLine s) (fed (at (withByte (s .line) b) (s .number) (s .stopped) (s .phase)) Nothing)
 
 -- The bytes of s from an index on, up to the end of a line or of s: the line takes those before the newline, and has ended where there is one.
 unfoldable pub afterPart : Splitter → List ℕ → ℕ → Advanced
 afterPart s l i =
     let f = filledFrom (s .line) l i in
-    let t = at (f .line) (s .number) (s .stopped) (s .form) in
+    let t = at (f .line) (s .number) (s .stopped) (s .phase) in
     cond (ltb (f .next) (length l)) (advanced (afterLine t) (f .next + 1)) (advanced (fed t Nothing) (f .next))
+
+-- Whether the head of the record is not over: a line of it is still to end.
+abbrev pub inHead : Phase → Bool
+inHead First = true
+inHead Count = true
+inHead Names = true
+inHead (Further f) = false
+
+unfoldable pub awaited : Splitter → Bool
+awaited s = cond (s .stopped) false (inHead (s .phase))
 
 -- Whether a line is left that the end of the record ends: "A missing last newline makes no difference. Empty input lacks its names line."
 unfoldable pub pending : Splitter → Bool
-pending s = cond (eqb (s .line .len) 0) (leb (s .number) 1) true
+pending s = cond (eqb (s .line .len) 0) (awaited s) true
 
--- The newline that the last line of a record lacks, if one is left.
-abbrev pub lastNewline : Splitter → List ℕ
-lastNewline s = cond (pending s) (10 ∷ []) []
-
-unfoldable pub atEnd : Splitter → Item
-atEnd s = cond (pending s) (afterLine s .item) Nothing
+-- The newlines that a record lacks: the last line's, if one is left, and behind it that of a line of the head that is missing.
+unfoldable pub lastNewlines : Splitter → List ℕ
+lastNewlines s = cond (pending s) (10 ∷ cond (awaited (afterLine s .splitter)) (10 ∷ []) []) []
 
 -- An item that says something.
 abbrev pub told : Item → List Item
 told Nothing = []
 told (Read x) = Read x ∷ []
 told (Malformed n) = Malformed n ∷ []
-told BadNames = BadNames ∷ []
+told (BadNames n) = BadNames n ∷ []
 told TooMany = TooMany ∷ []
+told (States c) = States c ∷ []
+told BadCount = BadCount ∷ []
 
--- All that is told while bytes are fed one by one, and at the end.
+-- All that is told while bytes are fed one by one.
+unfoldable pub tells : Splitter → List ℕ → List Item
+tells s [] = []
+tells s (b ∷ l) = told (afterByte s b .item) ++ tells (afterByte s b .splitter) l
+
+-- The same, with what is told at the end.
 unfoldable pub run : Splitter → List ℕ → List Item
-run s [] = told (atEnd s)
+run s [] = tells s (lastNewlines s)
 run s (b ∷ l) = told (afterByte s b .item) ++ run (afterByte s b .splitter) l
 
 -- The splitter after bytes that were fed one by one.

@@ -1,4 +1,4 @@
--- The text of a record's lines, as bytes. Document 01, "The record"; document 02, #101.
+-- The text of a record's lines, as bytes. Document 01, "The record"; document 02, #101 and #107.
 -- Assumes nothing.
 use mathlib.Core.Path.{_≡_}
 use mathlib.Core.Bool.{cond}
@@ -32,6 +32,10 @@ keyed Keyed key = 32 ∷ key
 -- "The first line is `kind from to`." "A record may begin with `kind from to key`".
 abbrev pub names : Form → List ℕ
 names f = (107 ∷ 105 ∷ 110 ∷ 100 ∷ 32 ∷ 102 ∷ 114 ∷ 111 ∷ 109 ∷ 32 ∷ 116 ∷ 111 ∷ []) ++ keyed f (107 ∷ 101 ∷ 121 ∷ [])
+
+-- "a line `states`"
+abbrev pub statesLine : List ℕ
+statesLine = 115 ∷ 116 ∷ 97 ∷ 116 ∷ 101 ∷ 115 ∷ []
 
 -- A line up to `to`: the kind, a space, `from`, a space.
 abbrev pub head : ℕ → ℕ → List ℕ

@@ -1,15 +1,16 @@
-// The grammar of a line: "`E 3 4` a step, `T 3 -` a terminal mark, `C 3 -` a close", and with keys `E 3 4 7`, `T 3 - -`, `C 3 - -`. Every other byte is malformed.
+// The grammar of a line: "`E 3 4` a step, `T 3 -` a terminal mark, `C 3 -` a close", and with keys `E 3 4 7`, `T 3 - -`, `C 3 - -`. Every other byte is malformed. And of a count line.
 ghost use mathlib.Core.Path.{_≡_};
 ghost use Prim.Native.Nat.{ℕ, _≤_, _<_};
 ghost use lib.ListN.{length, drop};
 ghost use Rattle.record.specs.declared.line.Form.the-variants.{Keyed};
-ghost use Rattle.record.specs.Grammar.{digits, value, behind, keyOf, step, noKey, markWith, lineOf};
-ghost use Rattle.record.specs.Buffer.{lineIn};
-ghost use Rattle.record.specs.Parsing.{parsed, digitOf, front, rest};
+ghost use Rattle.record.specs.Grammar.{digits, value, behind, keyOf, step, noKey, markWith, lineOf, countOf};
+ghost use Rattle.record.specs.Buffer.{lineIn, lineCount};
+ghost use Rattle.record.specs.Parsing.{parsed, parsedCount, digitOf, front, rest};
 use crate::line::Form;
 use crate::line::Line;
 use gid::Edge;
 use gid::Update;
+use tables::MAX_STATES;
 
 // "A value is decimal, 0 to 65,535"
 const MAX_VALUE: usize = 65535;
@@ -17,6 +18,12 @@ const MAX_VALUE: usize = 65535;
 // What a line is.
 pub enum Parsed {
     Update(Update),
+    Malformed,
+}
+
+// The count of a record's states, where a line is one.
+pub enum Count {
+    Of(usize),
     Malformed,
 }
 
@@ -50,6 +57,37 @@ impl Line {
         let bytes = self.bytes;
         parse_bytes(&bytes[..len], form)
     }
+
+    // The count that the line is.
+    pub fn count(self) -> Count
+        ensures { λ r. ⌜ r ≡ parsedCount (lineCount self) ⌝ }
+    {
+        let len = self.len;
+        if 16 < len {
+            return Count::Malformed;
+        }
+        let bytes = self.bytes;
+        count_bytes(&bytes[..len])
+    }
+}
+
+// "a number from 1 to 2,048"
+fn count_bytes(s: &[u8]) -> Count
+    ensures { λ r. ⌜ r ≡ parsedCount (countOf (now (s .entry))) ⌝ }
+{
+    let Value::Number { number, next } = value_at(s, 0) else {
+        return Count::Malformed;
+    };
+    if next < s.len() {
+        return Count::Malformed;
+    }
+    if number < 1 {
+        return Count::Malformed;
+    }
+    if MAX_STATES < number {
+        return Count::Malformed;
+    }
+    Count::Of(number)
 }
 
 fn parse_bytes(s: &[u8], form: Form) -> Parsed

@@ -2,7 +2,7 @@
 ghost use mathlib.Core.Path.{_≡_};
 ghost use Rattle.record.specs.Text.{names};
 ghost use Rattle.record.specs.Items.{same};
-ghost use Rattle.record.specs.Buffer.{emptyLine, filledFrom, isNamesIn};
+ghost use Rattle.record.specs.Buffer.{emptyLine, filledFrom, isNamesIn, isStatesIn};
 
 // The two forms of a record, by its names line: `kind from to`, and `kind from to key`.
 pub enum Form {
@@ -67,6 +67,18 @@ impl Line {
         }
         let bytes = self.bytes;
         equal_names(&bytes[..len], form)
+    }
+
+    // Whether the line is `states`.
+    pub fn is_states(self) -> bool
+        ensures { λ r. ⌜ r ≡ isStatesIn self ⌝ }
+    {
+        let len = self.len;
+        if 16 < len {
+            return false;
+        }
+        let bytes = self.bytes;
+        equal(&bytes[..len], b"states")
     }
 }
 

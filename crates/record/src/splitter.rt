@@ -1,7 +1,11 @@
 // The splitter: it is fed a record in parts of any length, and answers what each line is as the line ends.
 ghost use mathlib.Core.Path.{_≡_};
-ghost use Rattle.record.specs.Splitting.{started, afterNames, afterFirst, afterFurther, afterLine, afterPart, pending, lastNewline, itemOf};
+ghost use Rattle.record.specs.Splitting.{started, named, afterNames, countFed, afterFirst, afterFurther, afterLine, afterPart, awaited, pending, lastNewlines, itemOf};
+ghost use Rattle.record.specs.Buffer.{lineCount};
+ghost use Rattle.record.specs.Items.{items, countIn};
+ghost use Prim.Native.Nat.{_≤_};
 ghost use lib.ListN.{length};
+use crate::grammar::Count;
 use crate::grammar::Parsed;
 use crate::line::Form;
 use crate::line::Line;
@@ -13,6 +17,9 @@ pub const BAD_NAMES: u8 = 10;
 pub const MALFORMED: u8 = 11;
 // "12: line 65,536 exists"
 pub const TOO_MANY_LINES: u8 = 12;
+
+// "17 as line 2": the count is missing or is none.
+pub const BAD_COUNT: u8 = 17;
 
 pub const MAX_LINES: usize = 65535;
 
@@ -29,10 +36,26 @@ pub enum Item {
     Update(Numbered),
     // MALFORMED, with its line number.
     Malformed(usize),
-    // BAD_NAMES, at line 1.
-    BadNames,
+    // BAD_NAMES, with its line number: 1, or 3 behind a count.
+    BadNames(usize),
     // TOO_MANY_LINES, at line 65,536.
     TooMany,
+    // The count of the record's states, at line 2.
+    States(usize),
+    // BAD_COUNT, at line 2.
+    BadCount,
+}
+
+// Where a line stands: in the head of a record, or behind it.
+pub enum Phase {
+    // Line 1: `states`, or the names line.
+    First,
+    // Line 2, behind `states`: the count.
+    Count,
+    // Line 3, behind a count: the names line.
+    Names,
+    // Behind the names line, which gives the form.
+    Further(Form),
 }
 
 pub struct Splitter {
@@ -42,8 +65,8 @@ pub struct Splitter {
     pub number: usize,
     // Whether reading has stopped.
     pub stopped: bool,
-    // The record's form, once the names line has ended.
-    pub form: Form,
+    // Where in the record it stands.
+    pub phase: Phase,
 }
 
 // The splitter comes back beside what is known.
@@ -67,7 +90,7 @@ impl Splitter {
             line: Line::empty(),
             number: 1,
             stopped: false,
-            form: Form::Plain,
+            phase: Phase::First,
         }
     }
 
@@ -79,12 +102,12 @@ impl Splitter {
         let filled = line.filled(s, at);
         let longer = filled.line;
         let next = filled.next;
-        let form = self.form;
+        let phase = self.phase;
         let splitter = Splitter {
             line: longer,
             number: self.number,
             stopped: self.stopped,
-            form,
+            phase,
         };
         if next < s.len() {
             let fed = splitter.ended();
@@ -103,22 +126,46 @@ impl Splitter {
         }
     }
 
+    // Whether the head of the record is not over: a line of it is still to end.
+    fn awaits(self) -> bool
+        ensures { λ r. ⌜ r ≡ awaited self ⌝ }
+    {
+        if self.stopped {
+            return false;
+        }
+        let phase = self.phase;
+        match phase {
+            Phase::First => true,
+            Phase::Count => true,
+            Phase::Names => true,
+            Phase::Further(_) => false,
+        }
+    }
+
     // Whether a line is left that the end of the record ends: "A missing last newline makes no difference. Empty input lacks its names line."
     fn pending(self) -> bool
         ensures { λ r. ⌜ r ≡ pending self ⌝ }
     {
         let line = self.line;
         if line.len == 0 {
-            return self.number <= 1;
+            return self.awaits();
         }
         true
     }
 
-    // How many newlines the record's last line lacks: one where a line is left.
+    // How many newlines the record lacks at its end: that of the last line, if one is left, and that of a line of the head which is missing behind it.
     pub fn lacking(self) -> usize
-        ensures { λ r. ⌜ r ≡ length (lastNewline self) ⌝ }
+        ensures { λ r. ⌜ r ≡ length (lastNewlines self) ⌝ }
     {
-        if self.pending() { 1 } else { 0 }
+        if self.pending() {
+            let fed = self.ended();
+            let next = fed.splitter;
+            if next.awaits() {
+                return 2;
+            }
+            return 1;
+        }
+        0
     }
 
     // The line has ended.
@@ -132,48 +179,115 @@ impl Splitter {
             };
         }
         let line = self.line;
-        let form = self.form;
-        if self.number <= 1 {
-            first_line(line)
-        } else {
-            further_line(line, self.number, form)
+        let phase = self.phase;
+        match phase {
+            Phase::First => first_line(line),
+            Phase::Count => count_line(line),
+            Phase::Names => names_line(line, 3),
+            Phase::Further(form) => further_line(line, self.number, form),
         }
     }
 }
 
+// "A record may now begin with a line `states`".
 fn first_line(line: Line) -> Fed
     ensures { λ r. ⌜ r ≡ afterFirst line ⌝ }
 {
+    if line.is_states() {
+        return Fed {
+            splitter: Splitter {
+                line: Line::empty(),
+                number: 2,
+                stopped: false,
+                phase: Phase::Count,
+            },
+            item: Item::Nothing,
+        };
+    }
+    names_line(line, 1)
+}
+
+// Line 2, behind `states`: "a line with the count".
+fn count_line(line: Line) -> Fed
+    ensures { λ r. ⌜ r ≡ countFed (lineCount line) ⌝ }
+{
+    match line.count() {
+        Count::Of(states) => Fed {
+            splitter: Splitter {
+                line: Line::empty(),
+                number: 3,
+                stopped: false,
+                phase: Phase::Names,
+            },
+            item: Item::States(states),
+        },
+        Count::Malformed => Fed {
+            splitter: Splitter {
+                line: Line::empty(),
+                number: 3,
+                stopped: true,
+                phase: Phase::Names,
+            },
+            item: Item::BadCount,
+        },
+    }
+}
+
+// Line 1, or line 3 behind a count.
+fn names_line(line: Line, number: usize) -> Fed
+    requires { ⌜ number ≤ 3 ⌝ }
+    ensures { λ r. ⌜ r ≡ afterNames number line ⌝ }
+{
     if line.is_names(Form::Plain) {
-        return named(Form::Plain);
+        return named(number, Form::Plain);
     }
     if line.is_names(Form::Keyed) {
-        return named(Form::Keyed);
+        return named(number, Form::Keyed);
     }
     Fed {
         splitter: Splitter {
             line: Line::empty(),
-            number: 2,
+            number: number + 1,
             stopped: true,
-            form: Form::Plain,
+            phase: Phase::Names,
         },
-        item: Item::BadNames,
+        item: Item::BadNames(number),
     }
 }
 
 // The names line has ended.
-fn named(form: Form) -> Fed
-    ensures { λ r. ⌜ r ≡ afterNames form ⌝ }
+fn named(number: usize, form: Form) -> Fed
+    requires { ⌜ number ≤ 3 ⌝ }
+    ensures { λ r. ⌜ r ≡ named number form ⌝ }
 {
     Fed {
         splitter: Splitter {
             line: Line::empty(),
-            number: 2,
+            number: number + 1,
             stopped: false,
-            form,
+            phase: Phase::Further(form),
         },
         item: Item::Nothing,
     }
+}
+
+// What the head of a record says of its states, from the record's bytes alone: a count, BAD_COUNT, or nothing.
+pub fn states_of(bytes: &[u8]) -> Item
+    ensures { λ r. ⌜ r ≡ countIn (items (now (bytes .entry))) ⌝ }
+{
+    let start = Line::empty();
+    let first = start.filled(bytes, 0);
+    let line = first.line;
+    let next = first.next;
+    if line.is_states() {
+        if next < bytes.len() {
+            let second = start.filled(bytes, next + 1);
+            let count = count_line(second.line);
+            return count.item;
+        }
+        return Item::BadCount;
+    }
+    Item::Nothing
 }
 
 fn further_line(line: Line, number: usize, form: Form) -> Fed
@@ -185,7 +299,7 @@ fn further_line(line: Line, number: usize, form: Form) -> Fed
                 line: Line::empty(),
                 number: number,
                 stopped: true,
-                form,
+                phase: Phase::Further(form),
             },
             item: Item::TooMany,
         };
@@ -195,7 +309,7 @@ fn further_line(line: Line, number: usize, form: Form) -> Fed
             line: Line::empty(),
             number: number + 1,
             stopped: false,
-            form,
+            phase: Phase::Further(form),
         },
         item: item_of(line.parse(form), number),
     }

@@ -15,10 +15,8 @@ use Rattle.gid.specs.News.{below}
 use Rattle.record.specs.Text.{decimal, WroteAt}
 use Rattle.record.proofs.Decimals.{five-digits}
 use Rattle.record.proofs.Placing.{placed-then}
-use Rattle.reader.specs.Opening.{readerStates}
 use Rattle.report.specs.declared.totals.Totals.{Totals}
-use Rattle.report.specs.Texts.{openWord, unknownWord, endLiveWord, endDeadWord, ending, row, newsText, verdictWord, having, totalsText}
-use Rattle.report.specs.Printing.{totalsOf}
+use Rattle.report.specs.Texts.{openWord, unknownWord, endLiveWord, endDeadWord, ending, row, newsText, verdictWord, having, totalsBelow, totalsText}
 
 pub ending-length : (word : List ℕ) (n : ℕ) → length (ending word n) ≡ length word + length (decimal n) + 1
 unfolding ending
@@ -105,9 +103,9 @@ pub record Small (t : Totals) : Type 0 where
   pub lives : t .live ≤ 2048
   pub deads : t .dead ≤ 2048
 
-pub totals-small : (f : ℕ → ℕ) (t : Totals) → t ≡ totalsOf f → Small t
-totals-small f t e =
-    rw e (record { opens = having-few readerStates f 1; unknowns = having-few readerStates f 2; lives = having-few readerStates f 3; deads = having-few readerStates f 4 })
+pub totals-small : (n : ℕ) → n ≤ 2048 → (f : ℕ → ℕ) (t : Totals) → t ≡ totalsBelow n f → Small t
+totals-small n h f t e =
+    rw e (record { opens = omega (arith, having-few n f 1); unknowns = omega (arith, having-few n f 2); lives = omega (arith, having-few n f 3); deads = omega (arith, having-few n f 4) })
 
 pub totals-placed : (at : ℕ) (t : Totals) → Small t → (d e₁ e₂ e₃ e₄ : List ℕ) (r₁ r₂ r₃ r₄ : ℕ) → at + 80 ≤ length d → WroteAt at (ending openWord (t .«open»)) d e₁ r₁ → WroteAt r₁ (ending unknownWord (t .unknown)) e₁ e₂ r₂ → WroteAt r₂ (ending endLiveWord (t .live)) e₂ e₃ r₃ → WroteAt r₃ (ending endDeadWord (t .dead)) e₃ e₄ r₄ → WroteAt at (totalsText t) d e₄ r₄
 unfolding totalsText
@@ -126,15 +124,15 @@ totals-placed at t s d e₁ e₂ e₃ e₄ r₁ r₂ r₃ r₄ h p q u v =
     (placed-then at (a ++ b) c d e₂ e₃ r₂ r₃ (placed-then at a b d e₁ e₂ r₁ r₂ p q (omega arith)) u (omega arith))
     v (omega arith)
 
-pub totals-room : (f : ℕ → ℕ) → length (totalsText (totalsOf f)) ≤ 80
+pub totals-room : (n : ℕ) → n ≤ 2048 → (f : ℕ → ℕ) → length (totalsText (totalsBelow n f)) ≤ 80
 unfolding totalsText
-totals-room f =
-    let a = ending openWord (having readerStates f 1) in
-    let b = ending unknownWord (having readerStates f 2) in
-    let c = ending endLiveWord (having readerStates f 3) in
-    let z = ending endDeadWord (having readerStates f 4) in
-    let i = ending-room openWord (having readerStates f 1) (omega (arith, having-few readerStates f 1)) in
-    let j = ending-room unknownWord (having readerStates f 2) (omega (arith, having-few readerStates f 2)) in
-    let k = ending-room endLiveWord (having readerStates f 3) (omega (arith, having-few readerStates f 3)) in
-    let l = ending-room endDeadWord (having readerStates f 4) (omega (arith, having-few readerStates f 4)) in
+totals-room n h f =
+    let a = ending openWord (having n f 1) in
+    let b = ending unknownWord (having n f 2) in
+    let c = ending endLiveWord (having n f 3) in
+    let z = ending endDeadWord (having n f 4) in
+    let i = ending-room openWord (having n f 1) (omega (arith, having-few n f 1)) in
+    let j = ending-room unknownWord (having n f 2) (omega (arith, having-few n f 2)) in
+    let k = ending-room endLiveWord (having n f 3) (omega (arith, having-few n f 3)) in
+    let l = ending-room endDeadWord (having n f 4) (omega (arith, having-few n f 4)) in
     omega (arith, length-append (a ++ b ++ c) z, length-append (a ++ b) c, length-append a b)

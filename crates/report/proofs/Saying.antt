@@ -4,14 +4,15 @@ use mathlib.Core.Path.{_≡_, refl, sym, _∙_, ap}
 use mathlib.Core.Bool.{Bool, true, false, not, false≢true}
 use mathlib.Core.List.{List, [], _∷_, _++_, append-assoc, append-nil, List·Memᴰ, List·Memᴰ·head, List·Memᴰ·tail}
 use mathlib.Core.Option.{some}
-use Prim.Native.Nat.{ℕ, _<_}
+use Prim.Native.Nat.{ℕ, _≤_, _<_}
 use native.Mathlib.Omega.{arith}
 use lib.Dec.{eqb}
-use lib.ListN.{getD, take}
-use borrow.Author.Tests.{eqb-true}
+use lib.ListN.{length, getD, take}
+use borrow.Author.Tests.{eqb-true, le-leb}
 use Rattle.gid.specs.Histories.{History}
 use Rattle.gid.specs.Statuses.{status}
 use Rattle.gid.specs.News.{below}
+use Rattle.gid.specs.Refusals.{maxStates}
 use Rattle.gid.specs.Outcomes.{Outcome, refused, accepted}
 use Rattle.gid.proofs.News.{below-same}
 use Rattle.tables.specs.declared.Graph.{Graph}
@@ -21,18 +22,25 @@ use Rattle.engine.specs.declared.Answer.the-variants.{Accepted as Yes, Refused 
 use Rattle.engine.specs.Promise.{Promise}
 use Rattle.engine.proofs.Running.{was-accepted}
 use Rattle.record.specs.declared.splitter.Item.{Item}
+use Rattle.record.specs.declared.splitter.Item.the-variants.{BadNames, TooMany, BadCount}
+use Rattle.record.specs.Items.{itemNumber, itemLine}
+use Rattle.record.proofs.Splitting.{Lacks, no-count′, no-names′}
+use Rattle.record.proofs.Heading.{NoCount, NoCounts, Headed}
 use Rattle.reader.specs.declared.driver.LineAnswer.{LineAnswer}
 use Rattle.reader.specs.declared.driver.LineAnswer.the-variants.{Nothing, Accepted, Refused}
 use Rattle.reader.specs.declared.driver.Until.the-variants.{News}
-use Rattle.reader.specs.Opening.{readerGraph}
-use Rattle.reader.specs.Turning.{Told, lineOutcome, lineAnswer, Came, sent, nothing, malformed, badNames, tooMany}
-use Rattle.reader.specs.Replaying.{outcomeOf, afterItem, afterItems}
+use Rattle.reader.specs.Opening.{readerStates}
+use Rattle.reader.specs.Turning.{Told, lineOutcome, lineAnswer, numberAnswer, Came, sent, nothing, malformed, badNames, tooMany, states, badCount}
+use Rattle.reader.specs.Replaying.{graphAfter, startOf, outcomeOf, afterItem, afterItems}
 use Rattle.reader.specs.Standing.{Standing}
 use Rattle.reader.specs.Advancing.{Passed, itemsOf, Applies, none as no-line, next, waited, Quiet, Stops, found, ended}
-use Rattle.reader.proofs.Lines.{line-right}
-use Rattle.report.specs.Texts.{newsText, totalsBelow, totalsText}
+use Rattle.reader.proofs.Lines.{line-right, head-right}
+use Rattle.reader.proofs.Ending.{Silent, count-answer}
+use Rattle.report.specs.Texts.{refusedWord, refusedText, newsText, totalsBelow, totalsText}
 use Rattle.report.specs.Listing.{outcomeText, lineText, linesText}
-use Rattle.report.specs.Printing.{answerText, passedText, tableTotals}
+use Rattle.report.specs.Printing.{lineRoom, answerText, passedText, tableTotals}
+use Rattle.report.specs.Lister.{least}
+use Rattle.report.proofs.Placing.{row-room}
 
 -- statuses that agree on the news print the same
 news-same : (line : ℕ) (f g : ℕ → ℕ) (l : List ℕ) → ((s : ℕ) → List·Memᴰ s l → f s ≡ g s) → newsText line f l ≡ newsText line g l
@@ -55,26 +63,44 @@ told-text f line x (Refused m k) news status e q =
     rw (y, z)
 
 -- One line.
-pub line-says : {start : Graph} {h : History} {a : Item} {g g′ : Graph} {t t′ : Tables} {o : LineAnswer} → Standing start h g t → Came a g t g′ t′ o → answerText o (t′ .news) (t′ .status) ≡ lineText start h a
+pub line-says : {start : Graph} {h : History} {a : Item} {g g′ : Graph} {t t′ : Tables} {o : LineAnswer} → Standing start h g t → NoCount a → Came a g t g′ t′ o → answerText o (t′ .news) (t′ .status) ≡ lineText start h a
 unfolding lineText newsText
-line-says s nothing = refl
-line-says {start} {h} {g = g} {g′ = g′} {t = t} {t′ = t′} {o = o} s (sent {r = r} {a = a} p e q) =
-    let w = line-right s (sent {r = r} p e q) in
+line-says s n nothing = refl
+line-says {start} {h} {g = g} {g′ = g′} {t = t} {t′ = t′} {o = o} s n (sent {r = r} {a = a} p e q) =
+    let w = line-right s tt (sent {r = r} p e q) in
     told-text (status (afterItem start h (Rattle.record.specs.declared.splitter.Item.the-variants.Update r))) (r .line) (outcomeOf start h (Rattle.record.specs.declared.splitter.Item.the-variants.Update r)) o (t′ .news) (t′ .status) (w .0)
     (λ x k i m z. w .1 .fits .status x (rw (w .1 .states) (rw (s .states) at (by a p (sym e ∙ z) i))))
   where
     by : {x k m : ℕ} (b : Answer) → Promise g (r .update) t g′ b t′ → lineAnswer (r .line) b ≡ Accepted m k → List·Memᴰ x (take k (t′ .news)) → x < g .n
     by {x} {k} (Yes j) q z i = let y : j ≡ k = cc in was-accepted q .1 .named .inRange x (rw y i)
     by (No j) q z i = absurd (let y : _≡_ {A = ℕ} 0 1 = cc in omega arith)
-line-says s malformed = refl
-line-says s badNames = refl
-line-says s tooMany = refl
+line-says s n malformed = refl
+line-says s n badNames = refl
+line-says s n tooMany = refl
+line-says s n states = absurd n
+line-says s n badCount = refl
+
+head-says : {start : Graph} {a : Item} {g g′ : Graph} {t t′ : Tables} {o : LineAnswer} → Standing start [] g t → Came a g t g′ t′ o → answerText o (t′ .news) (t′ .status) ≡ lineText (graphAfter a start) [] a
+unfolding lineText newsText
+head-says s nothing = refl
+head-says s (sent p e q) = line-says s tt (sent p e q)
+head-says s malformed = refl
+head-says s badNames = refl
+head-says s tooMany = refl
+head-says s states = refl
+head-says s badCount = refl
 
 -- All lines.
-pub lines-say : {start : Graph} {h : History} {g g′ : Graph} {t t′ : Tables} {l : List Passed} → Standing start h g t → Applies g t l g′ t′ → passedText l ≡ linesText start h (itemsOf l)
+pub lines-say : {start : Graph} {h : History} {g g′ : Graph} {t t′ : Tables} {l : List Passed} → NoCounts (itemsOf l) → Standing start h g t → Applies g t l g′ t′ → passedText l ≡ linesText start h (itemsOf l)
 unfolding passedText linesText
-lines-say s no-line = refl
-lines-say s (next c a) = rw (line-says s c, lines-say (line-right s c .1) a)
+lines-say n s no-line = refl
+lines-say n s (next c a) = rw (line-says s (n .0) c, lines-say (n .1) (line-right s (n .0) c .1) a)
+
+-- From the start of a record.
+pub begins-say : {start : Graph} {g g′ : Graph} {t t′ : Tables} {l : List Passed} → maxStates ≤ start .n → Headed (itemsOf l) → Standing start [] g t → Applies g t l g′ t′ → passedText l ≡ linesText (startOf start (itemsOf l)) [] (itemsOf l)
+unfolding passedText linesText
+begins-say w h s no-line = refl
+begins-say w h s (next c a) = rw (head-says s c, lines-say (h .1) (head-right w s (h .0) c .1) a)
 
 pub lines-then : (start : Graph) (h : History) (l m : List Item) → linesText start h (l ++ m) ≡ linesText start h l ++ linesText start (afterItems start h l) m
 unfolding linesText
@@ -93,8 +119,11 @@ totals-same n f g e = rw (each 1, each 2, each 3, each 4) refl
     each k = below-same n (λ s. eqb (f s) k) (λ s. eqb (g s) k) (λ s h. ap (λ (x : ℕ). eqb x k) (e s h))
 
 -- The totals of tables that fit are those of the history.
-pub totals-say : {limit : ℕ} {h : History} {g : Graph} {t : Tables} → Standing (readerGraph limit) h g t → tableTotals (t .status) ≡ totalsText (totalsBelow (readerGraph limit .n) (status h))
-totals-say {limit} {h} {t = t} s = ap totalsText (totals-same (readerGraph limit .n) (λ r. getD (t .status) r 0) (status h) (λ r z. s .fits .status r (omega (arith, s .states))))
+pub totals-say : {start : Graph} {h : History} {g : Graph} {t : Tables} → start .n ≤ readerStates → Standing start h g t → tableTotals (least (g .n) readerStates) (t .status) ≡ totalsText (totalsBelow (start .n) (status h))
+totals-say {start} {h} {g} {t = t} few s =
+    let n : g .n ≤ readerStates = omega (arith, s .states) in
+    rw (le-leb (g .n) readerStates n)
+    (ap totalsText (ap (λ (k : ℕ). totalsBelow k (λ r. getD (t .status) r 0)) (s .states) ∙ totals-same (start .n) (λ r. getD (t .status) r 0) (status h) (λ r z. s .fits .status r (omega (arith, s .states)))))
 
 -- Lines without news that are not refused print nothing.
 quiet-text : (l : List Passed) → Quiet News l → passedText l ≡ []
@@ -123,3 +152,36 @@ stops-text {g} {g′} {t} {t′} {l = l} a (found before p e q w z) =
     let y : p .after ≡ t′ = applies-last before p (rw e at a) in
     rw e (passed-then before (p ∷ []) ∙ rw (quiet-text before q, append-nil (answerText (p .answer) (p .after .news) (p .after .status)), y, z))
 stops-text {l = l} a (ended q e z) = rw z (quiet-text l q)
+
+-- Lines that have no answer print nothing.
+pub silent-text : (l : List Passed) → Silent l → passedText l ≡ []
+unfolding passedText
+silent-text [] q = refl
+silent-text (p ∷ l) q = rw (q .0, silent-text l (q .1))
+
+-- What both missing newlines print fits a line's room.
+refusal-room : (line k : ℕ) → line < 100000 → k < 100000 → length (refusedText line k) ≤ lineRoom
+refusal-room line k p q = omega (arith, row-room line refusedWord k p q)
+
+refused-as : {a : Item} {k : ℕ} {g g′ : Graph} {t t′ : Tables} {o : LineAnswer} → Came a g t g′ t′ o → itemNumber a ≡ some k → o ≡ Refused (itemLine a) k
+refused-as nothing e = absurd (let z : _≡_ {A = ℕ} 0 1 = cc in omega arith)
+refused-as (sent p q w) e = absurd (let z : _≡_ {A = ℕ} 0 1 = cc in omega arith)
+refused-as (malformed {n = n}) e = ap (numberAnswer n) e
+refused-as (badNames {n = n}) e = ap (numberAnswer n) e
+refused-as tooMany e = ap (numberAnswer (itemLine TooMany)) e
+refused-as states e = absurd (let z : _≡_ {A = ℕ} 0 1 = cc in omega arith)
+refused-as badCount e = ap (numberAnswer 2) e
+
+pub lacks-room : {m : List Item} {g g′ : Graph} {t t′ : Tables} {l : List Passed} → Lacks m → m ≡ itemsOf l → Applies g t l g′ t′ → length (passedText l) ≤ lineRoom
+unfolding passedText
+lacks-room no-count′ e no-line = omega arith
+lacks-room no-count′ e (next {p = p} c no-line) =
+    let i : p .item ≡ BadCount = let z = e in cc in
+    rw (refused-as c (ap itemNumber i), append-nil (refusedText (itemLine (p .item)) 17)) (refusal-room (itemLine (p .item)) 17 (omega (arith, ap itemLine i)) (omega arith))
+lacks-room no-count′ e (next c (next d a)) = absurd (let z = ap length e in omega arith)
+lacks-room (no-names′ k) e no-line = omega arith
+lacks-room (no-names′ k) e (next c no-line) = absurd (let z = ap length e in omega arith)
+lacks-room (no-names′ k) e (next {p = p} c (next {p = q} d no-line)) =
+    let i : q .item ≡ BadNames 3 = let z = e in cc in
+    rw (count-answer {c = k} c (let z = e in cc), refused-as d (ap itemNumber i), append-nil (refusedText (itemLine (q .item)) 10)) (refusal-room (itemLine (q .item)) 10 (omega (arith, ap itemLine i)) (omega arith))
+lacks-room (no-names′ k) e (next c (next d (next f a))) = absurd (let z = ap length e in omega arith)

@@ -9,8 +9,9 @@ use lib.Dec.{leb}
 use lib.ListN.{length, drop}
 use Rattle.tables.specs.Tables.{Tables}
 use Rattle.record.specs.Text.{WroteAt}
-use Rattle.record.specs.Splitting.{started, lastNewline}
-use Rattle.reader.specs.Opening.{openRefusal, freshened}
+use Rattle.record.specs.Splitting.{started, lastNewlines}
+use Rattle.reader.specs.declared.Reader.{Reader}
+use Rattle.reader.specs.Opening.{readerStates, openRefusal, freshened}
 use Rattle.reader.specs.Reading.{recordLimit, recordGraph}
 use Rattle.reader.specs.Advancing.{Follows}
 use Rattle.report.specs.declared.lines.LinesEnd.{LinesEnd}
@@ -57,6 +58,10 @@ pub record BeginsListing (output : List ℕ) (t : Tables) (r : Lister) (output�
 abbrev pub least : ℕ → ℕ → ℕ
 least a b = cond (leb a b) a b
 
+-- The totals are over the states of the state value, and no more than there can be.
+abbrev pub totalsBy : Reader → List ℕ → List ℕ
+totalsBy r status = tableTotals (least (r .engine .graph .n) readerStates) status
+
 -- Where the next text goes, and from which index on a piece is read.
 abbrev pub placeBy : Task → ℕ → ℕ
 placeBy Read end = end
@@ -71,7 +76,7 @@ startBy End next len = least next len
 -- The totals behind the lines, where there is room for them.
 pub data PutsTotals (d : LinesEnd) (status output : List ℕ) (l : Lister) (output′ : List ℕ) : Type 0 where
   short : length output < d .end + totalsRoom → l ≡ record { reader = d .reader; next = d .next; end = d .end; task = Write } → output′ ≡ output → PutsTotals d status output l output′
-  totals : {r : ℕ} → l ≡ record { reader = d .reader; next = d .next; end = r; task = End } → r ≤ length output → WroteAt (d .end) (tableTotals status) output output′ r → PutsTotals d status output l output′
+  totals : {r : ℕ} → l ≡ record { reader = d .reader; next = d .next; end = r; task = End } → r ≤ length output → WroteAt (d .end) (totalsBy (d .reader) status) output output′ r → PutsTotals d status output l output′
 
 -- What is to be done after lines of a part of `len` bytes, of a piece of `given` bytes.
 pub data AfterLines (d : LinesEnd) (len given : ℕ) (status output : List ℕ) (l : Lister) (output′ : List ℕ) : Type 0 where
@@ -99,7 +104,7 @@ module _ (l : Lister) (piece output : List ℕ) (t : Tables) where
         WroteAt place (passedText (f .passed)) output output′ (l′ .end) → l′ .end ≤ length output → Lists l′ output′ t′
     stopped :
         {left : List ℕ} (f : Follows (l .reader .splitter) rest (l .reader .engine .graph) t (l′ .reader .splitter) left (l′ .reader .engine .graph) t′) → l′ .task ≡ End → l′ .reader .splitter .stopped ≡ true →
-        WroteAt place (passedText (f .passed) ++ tableTotals (t′ .status)) output output′ (l′ .end) → l′ .end ≤ length output → Lists l′ output′ t′
+        WroteAt place (passedText (f .passed) ++ totalsBy (l′ .reader) (t′ .status)) output output′ (l′ .end) → l′ .end ≤ length output → Lists l′ output′ t′
     ended :
-        {newline left : List ℕ} → piece ≡ [] → newline ≡ lastNewline (l .reader .splitter) → (f : Follows (l .reader .splitter) newline (l .reader .engine .graph) t (l′ .reader .splitter) left (l′ .reader .engine .graph) t′) → left ≡ [] → l′ .task ≡ End →
-        WroteAt place (passedText (f .passed) ++ tableTotals (t′ .status)) output output′ (l′ .end) → l′ .end ≤ length output → Lists l′ output′ t′
+        {newline left : List ℕ} → piece ≡ [] → newline ≡ lastNewlines (l .reader .splitter) → (f : Follows (l .reader .splitter) newline (l .reader .engine .graph) t (l′ .reader .splitter) left (l′ .reader .engine .graph) t′) → left ≡ [] → l′ .task ≡ End →
+        WroteAt place (passedText (f .passed) ++ totalsBy (l′ .reader) (t′ .status)) output output′ (l′ .end) → l′ .end ≤ length output → Lists l′ output′ t′

@@ -9,9 +9,7 @@ use Rattle.record.specs.Text.{WroteAt}
 use Rattle.record.specs.declared.splitter.Splitter.{Splitter}
 use Rattle.reader.specs.declared.driver.LineAnswer.{LineAnswer}
 use Rattle.reader.specs.declared.driver.LineAnswer.the-variants.{Nothing, Accepted, Refused}
-use Rattle.reader.specs.Opening.{readerStates}
 use Rattle.reader.specs.Advancing.{Passed, Follows}
-use Rattle.report.specs.declared.totals.Totals.{Totals}
 use Rattle.report.specs.Texts.{refusedText, newsText, totalsBelow, totalsText}
 
 -- The room that one line's text may take: 17 bytes for each of 2,048 states.
@@ -29,13 +27,9 @@ unfoldable pub passedText : List Passed → List ℕ
 passedText [] = []
 passedText (p ∷ l) = answerText (p .answer) (p .after .news) (p .after .status) ++ passedText l
 
--- The counts over all states of a reader's tables.
-abbrev pub totalsOf : (ℕ → ℕ) → Totals
-totalsOf = totalsBelow readerStates
-
--- The totals, by the status table.
-abbrev pub tableTotals : List ℕ → List ℕ
-tableTotals status = totalsText (totalsOf (λ s. getD status s 0))
+-- The totals of the first n states, by the status table.
+abbrev pub tableTotals : ℕ → List ℕ → List ℕ
+tableTotals n status = totalsText (totalsBelow n (λ s. getD status s 0))
 
 -- From an index of a part to another its lines have been applied, and their text written at a place of a buffer.
 pub record Lines (s : Splitter) (part : List ℕ) (index : ℕ) (g : Graph) (t : Tables) (s′ : Splitter) (next : ℕ) (g′ : Graph) (t′ : Tables) (at : ℕ) (d e : List ℕ) (r : ℕ) : Type 0 where

@@ -5,6 +5,7 @@ use mathlib.Core.List.{List, [], _++_}
 use Prim.Native.Nat.{ℕ}
 use lib.ListN.{take, drop}
 use Rattle.tables.specs.Tables.{Tables}
+use Rattle.reader.specs.Replaying.{startOf}
 use Rattle.reader.specs.Reading.{recordGraph}
 use Rattle.reader.specs.Underway.{Underway}
 use Rattle.report.specs.declared.lister.Lister.{Lister}
@@ -22,7 +23,7 @@ leftBy End next piece = []
 -- A listing that goes on: the bytes `got` have been read and `put` have been written. The tables stand for the lines listed so far, and their text has been written or stands in the output.
 pub record Ongoing (got put : List ℕ) (l : Lister) (piece output : List ℕ) (t : Tables) : Type 0 where
   pub under : Underway recordGraph got (l .reader .splitter) (leftBy (l .task) (l .next) piece) (l .reader .engine .graph) t
-  pub text : put ++ take (l .end) output ≡ header ++ linesText recordGraph [] (under .lines)
+  pub text : put ++ take (l .end) output ≡ header ++ linesText (startOf recordGraph (under .lines)) [] (under .lines)
 
 -- One that has ended, at the end of the input (the last piece is empty) or where reading has stopped: what was written, with what stands in the output, is the listing of the input, whatever followed where reading has stopped.
 abbrev pub Finished : List ℕ → List ℕ → Lister → List ℕ → List ℕ → Type 0

@@ -20,6 +20,7 @@ use reader::Reader;
 use reader::Task;
 use reader::piece_or;
 use tables::Graph;
+use tables::MAX_STATES;
 
 // The output's least length: room for a line and the totals.
 const LISTER_ROOM: usize = LINE_ROOM + TOTALS_ROOM;
@@ -145,9 +146,9 @@ pub fn list(
         };
     }
     let splitter = reader.splitter;
-    let newline: &[u8] = b"\n";
+    let newlines: &[u8] = b"\n\n";
     let lacking = splitter.lacking();
-    let part = piece_or(piece, &newline[..lacking]);
+    let part = piece_or(piece, &newlines[..lacking]);
     let len = part.len();
     let listed = list_lines(
         reader,
@@ -258,7 +259,9 @@ fn close(listed: LinesEnd, output: &mut [u8], status: &[u8]) -> Lister
             task: Task::Write,
         };
     }
-    let total = put_totals(output, end, status);
+    let engine = reader.engine;
+    let graph = engine.graph;
+    let total = put_totals(output, end, least(graph.n, MAX_STATES), status);
     Lister {
         reader,
         next,

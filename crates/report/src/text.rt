@@ -1,9 +1,10 @@
 // The text of printed lines, each written at a place of a lent buffer. Each call returns the place after what it wrote.
 ghost use Prim.Native.Nat.{_≤_, _<_, _+_, _*_};
 ghost use lib.ListN.{length, getD};
+ghost use Rattle.gid.specs.Refusals.{maxStates};
 ghost use Rattle.record.specs.Text.{WroteAt};
-ghost use Rattle.report.specs.Texts.{totalsRoom, header, ending, row, refusedText, verdictWord, newsText, totalsText};
-ghost use Rattle.report.specs.Printing.{totalsOf};
+ghost use Rattle.report.specs.Texts.{totalsRoom, header, ending, row, refusedText, verdictWord, newsText};
+ghost use Rattle.report.specs.Printing.{tableTotals};
 use crate::totals::count;
 use record::put_bytes_at;
 use record::put_number_at;
@@ -54,12 +55,12 @@ fn put_verdict(buf: &mut [u8], at: usize, line: usize, status: u8, state: usize)
     put_row(buf, at, line, b" dead ", state)
 }
 
-// The four lines of the totals.
-pub fn put_totals(buf: &mut [u8], at: usize, status: &[u8]) -> usize
-    requires { ⌜ at + totalsRoom ≤ length (now buf) ⌝ }
-    ensures { λ r. ⌜ WroteAt at (totalsText (totalsOf (λ s. getD (now (status .entry)) s 0))) (now (buf .entry)) (now (buf .exit)) r ⌝ }
+// The four lines of the totals, over the first n states.
+pub fn put_totals(buf: &mut [u8], at: usize, n: usize, status: &[u8]) -> usize
+    requires { ⌜ (n ≤ maxStates) × (at + totalsRoom ≤ length (now buf)) ⌝ }
+    ensures { λ r. ⌜ WroteAt at (tableTotals n (now (status .entry))) (now (buf .entry)) (now (buf .exit)) r ⌝ }
 {
-    let counts = count(status);
+    let counts = count(n, status);
     let first = put_ending(buf, at, b"end open ", counts.open);
     let second = put_ending(buf, first, b"end unknown ", counts.unknown);
     let third = put_ending(buf, second, b"end live ", counts.live);

@@ -63,6 +63,29 @@ tables-then a b =
       outNext = kept-trans (a .outNext) (b .outNext);
     }
 
+-- what is kept for some states is kept for more
+pub visited-wider : {m n : ℕ} → m ≤ n → visitedLength m ≤ visitedLength n
+unfolding visitedLength
+visited-wider h = h
+
+pub tables-wider : {m n limit : ℕ} {t t′ : Tables} → m ≤ n → KeptTables m m limit t t′ → KeptTables n n limit t t′
+tables-wider h k =
+    record {
+      status = kept-wider (k .status) h;
+      marks = kept-wider (k .marks) h;
+      from = k .from;
+      to = k .to;
+      key = k .key;
+      successor = kept-wider (k .successor) h;
+      news = kept-wider (k .news) h;
+      inHead = kept-wider (k .inHead) h;
+      outHead = kept-wider (k .outHead) h;
+      queue = kept-wider (k .queue) h;
+      visited = kept-wider (k .visited) (visited-wider h);
+      inNext = k .inNext;
+      outNext = k .outNext;
+    }
+
 pub lengths-kept : {n nodes limit : ℕ} {t t′ : Tables} → KeptTables n nodes limit t t′ → lengths t′ ≡ lengths t
 lengths-kept k =
     λ i.

@@ -7,7 +7,7 @@ use Prim.Native.Nat.{ℕ, _+_, _*_, _≤_}
 use native.Mathlib.Omega.{arith}
 use lib.Dec.{leb}
 use lib.ListN.{length}
-use borrow.Author.Tests.{leb-true}
+use borrow.Author.Tests.{leb-true, le-leb}
 use Rattle.tables.specs.declared.lengths.Lengths.{Lengths}
 use Rattle.tables.specs.Tables.{Tables, Needed, enough, visitedLength, workNeeds, checkNeeds, needs, lengths, total, Long}
 
@@ -51,6 +51,18 @@ module _ (n nodes limit : ℕ) (t : Tables) where
 
   pub long-enough : enough (needs n nodes limit (lengths t)) ≡ true → (n ≤ length (t .news)) × Long n nodes limit t
   long-enough e = let a = each-enough (needs n nodes limit (lengths t)) e in (a .0, long-each (a .1))
+
+-- what is enough for some states is enough for fewer
+each-back : (l : List Needed) → Each l → enough l ≡ true
+each-back [] e = refl
+each-back (x ∷ l) e = rw (le-leb (x .need) (x .have) (e .0)) (each-back l (e .1))
+
+pub fewer-enough : (m n limit : ℕ) (l : Lengths) → m ≤ n → enough (needs n n limit l) ≡ true → enough (needs m m limit l) ≡ true
+unfolding visitedLength
+fewer-enough m n limit l h e =
+    let a = each-enough (needs n n limit l) e in
+    let b = a .1 .1 .1 .1 .1 .1 in
+    each-back (needs m m limit l) (omega (arith, a .0), (omega (arith, a .1 .0), (omega (arith, a .1 .1 .0), (a .1 .1 .1 .0, (a .1 .1 .1 .1 .0, (a .1 .1 .1 .1 .1 .0, (omega (arith, b .0), (omega (arith, b .1 .0), (omega (arith, b .1 .1 .0), (omega (arith, b .1 .1 .1 .0), (omega (arith, b .1 .1 .1 .1 .0), (b .1 .1 .1 .1 .1 .0, (b .1 .1 .1 .1 .1 .1 .0, tt)))))))))))))
 
 -- for fewer steps than the limit
 pub long-fewer : {n nodes limit m : ℕ} {t : Tables} → m ≤ limit → Long n nodes limit t → Long n nodes m t

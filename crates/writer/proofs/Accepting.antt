@@ -17,12 +17,12 @@ use Rattle.gid.specs.Updates.{Mentions}
 use Rattle.gid.specs.Histories.{History, IsClosed, MayFollow, Legal, following, isIn, added, listed}
 use Rattle.gid.specs.Statuses.{isClosed}
 use Rattle.gid.specs.News.{news}
-use Rattle.gid.specs.Refusals.{lent, sent, refusal, maxSteps, maxKey}
+use Rattle.gid.specs.Refusals.{lent, sent, refusal, maxStates, maxSteps, maxKey}
 use Rattle.gid.specs.Outcomes.{accepted, givenAfter, outcome, after}
 use Rattle.gid.proofs.Decide.{refutes}
 use Rattle.gid.proofs.Tests.{decides-closed}
 use Rattle.tables.proofs.Refusing.{NoneApply, none-applies, first-none}
-use Rattle.reader.specs.Opening.{readerStates, readerGraph}
+use Rattle.tables.specs.declared.Graph.{Graph}
 use Rattle.reader.specs.Replaying.{afterItems, firstRefusal}
 use Rattle.writer.proofs.Splits.{numbered}
 
@@ -45,37 +45,40 @@ unfolding listed
 fewer-before h [] = omega arith
 fewer-before h (x ∷ l) = omega (arith, length-append (listed h) (added (isIn (listed h)) x), fewer-before (x ∷ h) l)
 
-module _ (limit : ℕ) (some-limit : 0 < limit) (low : limit ≤ maxSteps) where
+module _ (n limit : ℕ) (some-states : 0 < n) (few : n ≤ maxStates) (some-limit : 0 < limit) (low : limit ≤ maxSteps) where
+  abbrev start : Graph
+  start = record { n = n; limit = limit; steps = 0 }
+
   -- no test applies to an update that may follow
-  unrefused : (h : History) (x : Update) → InBounds readerStates x → MayFollow h x → length (listed (x ∷ h)) ≤ limit → refusal (givenAfter readerStates limit h) x ≡ none
+  unrefused : (h : History) (x : Update) → InBounds n x → MayFollow h x → length (listed (x ∷ h)) ≤ limit → refusal (givenAfter n limit h) x ≡ none
   unfolding refusal givenAfter listed
-  unrefused h x r o c = first-none (lent (givenAfter readerStates limit h)) (sent (givenAfter readerStates limit h) x) (none-applies (lent (givenAfter readerStates limit h)) (lent-passed (fewer-before h (x ∷ [])))) ∙ none-applies (sent (givenAfter readerStates limit h) x) (sent-passed x r o c)
+  unrefused h x r o c = first-none (lent (givenAfter n limit h)) (sent (givenAfter n limit h) x) (none-applies (lent (givenAfter n limit h)) (lent-passed (fewer-before h (x ∷ [])))) ∙ none-applies (sent (givenAfter n limit h) x) (sent-passed x r o c)
     where
-      lent-passed : length (listed h) ≤ length (listed (x ∷ h)) → NoneApply (lent (givenAfter readerStates limit h))
-      lent-passed f = (refl, (rw (ne-eqb limit 0 (λ e. omega arith), le-ltb maxSteps limit low), (refl, (le-ltb limit (length (listed h)) (omega arith), tt))))
+      lent-passed : length (listed h) ≤ length (listed (x ∷ h)) → NoneApply (lent (givenAfter n limit h))
+      lent-passed f = (rw (ne-eqb n 0 (λ e. omega arith), le-ltb maxStates n few), (rw (ne-eqb limit 0 (λ e. omega arith), le-ltb maxSteps limit low), (refl, (le-ltb limit (length (listed h)) (omega arith), tt))))
 
       unclosed : (u : ℕ) → (IsClosed h u → ⊥) → isClosed h u ≡ false
-      unclosed u n = refutes (isClosed h u) (decides-closed h u) n
+      unclosed u o = refutes (isClosed h u) (decides-closed h u) o
 
       placed : (e : Edge) (b : Bool) → length (listed h ++ cond b [] (e ∷ [])) ≤ limit → eqb (length (listed h)) limit && not b ≡ false
       placed e true k = and-false (eqb (length (listed h)) limit)
       placed e false k = rw (ne-eqb (length (listed h)) limit (λ z. omega (arith, length-append (listed h) (e ∷ []))))
 
-      sent-passed : (y : Update) → InBounds readerStates y → MayFollow h y → length (listed (y ∷ h)) ≤ limit → NoneApply (sent (givenAfter readerStates limit h) y)
-      sent-passed (Step e) q n k = (rw (lt-leb readerStates (e .from) (q .0 (e .from) (inl refl)), lt-leb readerStates (e .to) (q .0 (e .to) (inr refl))), (le-ltb maxKey (e .key) (q .1), (unclosed (e .from) n, (placed e (isIn (listed h) e) k, tt))))
-      sent-passed (Terminal u) q n k = (lt-leb readerStates u (q .0 u refl), (unclosed u n, tt))
-      sent-passed (Close u) q n k = (lt-leb readerStates u (q .0 u refl), tt)
+      sent-passed : (y : Update) → InBounds n y → MayFollow h y → length (listed (y ∷ h)) ≤ limit → NoneApply (sent (givenAfter n limit h) y)
+      sent-passed (Step e) q o k = (rw (lt-leb n (e .from) (q .0 (e .from) (inl refl)), lt-leb n (e .to) (q .0 (e .to) (inr refl))), (le-ltb maxKey (e .key) (q .1), (unclosed (e .from) o, (placed e (isIn (listed h) e) k, tt))))
+      sent-passed (Terminal u) q o k = (lt-leb n u (q .0 u refl), (unclosed u o, tt))
+      sent-passed (Close u) q o k = (lt-leb n u (q .0 u refl), tt)
 
-  accepts : (h : History) (x : Update) → refusal (givenAfter readerStates limit h) x ≡ none → (outcome readerStates limit h x ≡ accepted (news readerStates h x)) × (after readerStates limit h x ≡ x ∷ h)
+  accepts : (h : History) (x : Update) → refusal (givenAfter n limit h) x ≡ none → (outcome n limit h x ≡ accepted (news n h x)) × (after n limit h x ≡ x ∷ h)
   unfolding outcome after
   accepts h x e = (rw (e, outcome), rw (e, after))
 
   -- No line is refused, and the history after them is all of them.
-  pub lines-accepted : (k : ℕ) (h : History) (l : List Update) → Legal (following h l) → ((x : Update) → List·Memᴰ x l → InBounds readerStates x) → length (listed (following h l)) ≤ limit → (firstRefusal (readerGraph limit) h (numbered k l) ≡ none) × (afterItems (readerGraph limit) h (numbered k l) ≡ following h l)
+  pub lines-accepted : (k : ℕ) (h : History) (l : List Update) → Legal (following h l) → ((x : Update) → List·Memᴰ x l → InBounds n x) → length (listed (following h l)) ≤ limit → (firstRefusal start h (numbered k l) ≡ none) × (afterItems start h (numbered k l) ≡ following h l)
   unfolding numbered
   lines-accepted k h [] p r c = (refl, refl)
   lines-accepted k h (x ∷ l) p r c =
       let f = fewer-before (x ∷ h) l in
       let e = accepts h x (unrefused h x (r x (List·Memᴰ·head refl)) (legal-before (x ∷ h) l p .1) (omega arith)) in
       let i = lines-accepted (k + 1) (x ∷ h) l p (λ y m. r y (List·Memᴰ·tail m)) c in
-      (rw (e .0, e .1) (i .0), ap (λ (f : History). afterItems (readerGraph limit) f (numbered (k + 1) l)) (e .1) ∙ i .1)
+      (rw (e .0, e .1) (i .0), ap (λ (f : History). afterItems start f (numbered (k + 1) l)) (e .1) ∙ i .1)

@@ -33,9 +33,3 @@ module _ {h g : History} (to : Inside h g) (of : Inside g h) (s : ℕ) where
   pub same-marks : marksOf h s ≡ marksOf g s
   unfolding marksOf
   same-marks = rw (same-named, same-terminal, same-closed)
-
--- a state that is not named has no mark
-pub no-marks : (h : History) (s : ℕ) → (IsNamed h s → ⊥) → marksOf h s ≡ 0
-unfolding marksOf
-no-marks h s n =
-    rw (refutes (isNamed h s) (decides-named h s) n, refutes (isTerminal h s) (decides-terminal h s) (λ m. n (Terminal s, m, refl)), refutes (isClosed h s) (decides-closed h s) (λ m. n (Close s, m, refl)))

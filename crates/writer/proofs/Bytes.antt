@@ -12,12 +12,12 @@ use Rattle.gid.specs.declared.Edge.{Edge}
 use Rattle.gid.specs.declared.Update.{Update}
 use Rattle.gid.specs.declared.Update.the-variants.{Step, Terminal, Close}
 use Rattle.record.specs.declared.line.Form.the-variants.{Keyed}
-use Rattle.record.specs.Text.{decimal, text, maxValue, Within}
+use Rattle.record.specs.Text.{decimal, statesLine, text, maxValue, Within}
 use Rattle.record.proofs.Decimals.{decimal-digit, five-digits as most}
 use Rattle.record.proofs.Writing.{room-more, step-length, mark-length}
 use Rattle.writer.specs.declared.marking.Mark.{Mark}
 use Rattle.writer.specs.declared.marking.Mark.the-variants.{Terminal as ForTerminal, Close as ForClose}
-use Rattle.writer.specs.Order.{hasMark, marking, inOrder, markedLines, stepLines, writtenUpdates, lineBytes, bytesOf, namesBytes, recordOf}
+use Rattle.writer.specs.Order.{hasMark, marking, inOrder, markedLines, stepLines, writtenUpdates, lineBytes, bytesOf, namesBytes, headBytes, recordOf}
 use Rattle.writer.specs.Sizing.{markLine}
 
 pub one-digit : (v : ℕ) → v < 10 → length (decimal v) ≡ 1
@@ -104,21 +104,25 @@ module _ (test : ℕ → Bool) (update : ℕ → Update) where
       at (no d) z ih = omega (arith, ih (omega arith))
 
 -- The record is its four parts, one behind the other.
-pub parts : (n m : ℕ) (marks from to key : List ℕ) → recordOf n m marks from to key ≡ ((namesBytes ++ bytesOf (markedLines ForTerminal n marks)) ++ bytesOf (stepLines m from to key)) ++ bytesOf (markedLines ForClose n marks)
+pub parts : (n m : ℕ) (marks from to key : List ℕ) → recordOf n m marks from to key ≡ ((headBytes n ++ bytesOf (markedLines ForTerminal n marks)) ++ bytesOf (stepLines m from to key)) ++ bytesOf (markedLines ForClose n marks)
 unfolding recordOf writtenUpdates
 parts n m marks from to key =
-    ap (λ (l : List ℕ). namesBytes ++ l)
+    ap (λ (l : List ℕ). headBytes n ++ l)
     (bytes-append (markedLines ForTerminal n marks) (stepLines m from to key ++ markedLines ForClose n marks) ∙
     ap (λ (l : List ℕ). bytesOf (markedLines ForTerminal n marks) ++ l) (bytes-append (stepLines m from to key) (markedLines ForClose n marks))) ∙
-    regroup namesBytes (bytesOf (markedLines ForTerminal n marks)) (bytesOf (stepLines m from to key)) (bytesOf (markedLines ForClose n marks))
+    regroup (headBytes n) (bytesOf (markedLines ForTerminal n marks)) (bytesOf (stepLines m from to key)) (bytesOf (markedLines ForClose n marks))
   where
     regroup : (a b c d : List ℕ) → a ++ (b ++ (c ++ d)) ≡ ((a ++ b) ++ c) ++ d
     regroup a b c d = sym (append-assoc a b (c ++ d)) ∙ sym (append-assoc (a ++ b) c d)
 
-pub record-size : (n m : ℕ) (marks from to key : List ℕ) → length (recordOf n m marks from to key) ≡ 17 + length (bytesOf (markedLines ForTerminal n marks)) + length (bytesOf (stepLines m from to key)) + length (bytesOf (markedLines ForClose n marks))
+-- the head has 25 bytes, and the count's digits
+pub head-size : (n : ℕ) → length (headBytes n) ≡ 25 + length (decimal n)
+head-size n = omega (arith, length-append (statesLine ++ (10 ∷ []) ++ decimal n) (10 ∷ namesBytes), length-append (statesLine ++ (10 ∷ [])) (decimal n))
+
+pub record-size : (n m : ℕ) (marks from to key : List ℕ) → length (recordOf n m marks from to key) ≡ 25 + length (decimal n) + length (bytesOf (markedLines ForTerminal n marks)) + length (bytesOf (stepLines m from to key)) + length (bytesOf (markedLines ForClose n marks))
 record-size n m marks from to key =
-    let a = namesBytes in
+    let a = headBytes n in
     let b = bytesOf (markedLines ForTerminal n marks) in
     let c = bytesOf (stepLines m from to key) in
     let d = bytesOf (markedLines ForClose n marks) in
-    omega (arith, ap length (parts n m marks from to key), length-append ((a ++ b) ++ c) d, length-append (a ++ b) c, length-append a b)
+    omega (arith, ap length (parts n m marks from to key), length-append ((a ++ b) ++ c) d, length-append (a ++ b) c, length-append a b, head-size n)

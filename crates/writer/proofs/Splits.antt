@@ -1,4 +1,4 @@
--- The lines of a written record are the names line and the texts of its updates, and its items are these updates, numbered from 2.
+-- The lines of a written record are those of its head and the texts of its updates, and its items are the count and these updates, numbered from 4.
 -- Assumes nothing.
 use mathlib.Core.Path.{_≡_, refl, _∙_, ap}
 use mathlib.Core.Bool.{Bool, true, false, cond}
@@ -13,16 +13,16 @@ use Rattle.gid.specs.declared.Update.{Update}
 use Rattle.gid.specs.declared.Update.the-variants.{Step, Terminal, Close}
 use Rattle.gid.specs.Refusals.{maxStates, maxSteps}
 use Rattle.record.specs.declared.splitter.Item.{Item}
-use Rattle.record.specs.declared.splitter.Item.the-variants.{Update as Read}
+use Rattle.record.specs.declared.splitter.Item.the-variants.{Update as Read, States}
 use Rattle.record.specs.declared.line.Form.the-variants.{Keyed}
-use Rattle.record.specs.Text.{decimal, head, field, text, names, Within}
+use Rattle.record.specs.Text.{decimal, statesLine, head, field, text, names, Within}
 use Rattle.record.specs.Lines.{lines}
-use Rattle.record.specs.Items.{same, maxLines, further, all, items}
+use Rattle.record.specs.Items.{same, maxLines, further, named, counted, all, items}
 use Rattle.record.proofs.Decimals.{decimal-digit, decimal-more}
-use Rattle.record.proofs.Reading.{Short, text-short, line-back}
+use Rattle.record.proofs.Reading.{Short, text-short, line-back, count-back}
 use Rattle.record.proofs.Splitting.{Unbroken, none′, more, lines-break}
 use Rattle.writer.specs.declared.marking.Mark.the-variants.{Terminal as ForTerminal, Close as ForClose}
-use Rattle.writer.specs.Order.{inOrder, isMarked, markedLines, stepAt, stepLines, writtenUpdates, bytesOf, recordOf}
+use Rattle.writer.specs.Order.{inOrder, isMarked, markedLines, stepAt, stepLines, writtenUpdates, bytesOf, namesBytes, headBytes, recordOf}
 
 -- a byte that is no newline
 byte : (b : ℕ) {l : List ℕ} → 10 < b → Unbroken l → Unbroken (b ∷ l)
@@ -66,9 +66,19 @@ lines-bytes (x ∷ l) =
     lines-break (bytesOf l) (unbroken-text x) ∙
     ap (λ (ls : List (List ℕ)). text Keyed x ∷ ls) (lines-bytes l)
 
-names-line : (s : List ℕ) → lines (names Keyed ++ (10 ∷ s)) ≡ names Keyed ∷ lines s
+-- the head's lines
+states-lines : (s : List ℕ) → lines (statesLine ++ (10 ∷ s)) ≡ statesLine ∷ lines s
 unfolding lines
-names-line s = refl
+states-lines s = refl
+
+names-lines : (s : List ℕ) → lines (names Keyed ++ (10 ∷ s)) ≡ names Keyed ∷ lines s
+unfolding lines
+names-lines s = refl
+
+head-lines : (n : ℕ) (s : List ℕ) → lines (headBytes n ++ s) ≡ statesLine ∷ decimal n ∷ names Keyed ∷ lines s
+head-lines n s =
+    ap lines (append-assoc (statesLine ++ (10 ∷ []) ++ decimal n) (10 ∷ namesBytes) s ∙ append-assoc (statesLine ++ (10 ∷ [])) (decimal n) (10 ∷ (namesBytes ++ s))) ∙ states-lines (decimal n ++ (10 ∷ (namesBytes ++ s))) ∙
+    ap (λ (ls : List (List ℕ)). statesLine ∷ ls) (lines-break (namesBytes ++ s) (unbroken-decimal n) ∙ ap (λ (ls : List (List ℕ)). decimal n ∷ ls) (names-lines s))
 
 order-count : (n : ℕ) (test : ℕ → Bool) (update : ℕ → Update) → length (inOrder n test update) ≤ n
 unfolding inOrder
@@ -103,9 +113,9 @@ further-numbered [] k w h = refl
 further-numbered (x ∷ l) k w h =
     rw (le-leb k maxLines (omega arith), let r = w x (List·Memᴰ·head refl) in line-back Keyed x (r .0) (text-short Keyed x (r .0) (r .1)), further-numbered l (k + 1) (λ y m. w y (List·Memᴰ·tail m)) (omega arith))
 
--- The record's items: the written updates, from line 2 on. The longest record has 12,289 lines of 65,535.
-pub items-record : (n m : ℕ) (marks from to key : List ℕ) → n ≤ maxStates → m ≤ maxSteps → ((x : Update) → List·Memᴰ x (writtenUpdates n m marks from to key) → Writable x) → items (recordOf n m marks from to key) ≡ numbered 2 (writtenUpdates n m marks from to key)
-unfolding items all recordOf same
-items-record n m marks from to key few low w =
-    rw (names-line (bytesOf (writtenUpdates n m marks from to key)), lines-bytes (writtenUpdates n m marks from to key))
-    (further-numbered (writtenUpdates n m marks from to key) 2 w (omega (arith, updates-count n m marks from to key)))
+-- The record's items: the count, and the written updates from line 4 on. The longest record has 12,291 lines of 65,535.
+pub items-record : (n m : ℕ) (marks from to key : List ℕ) → 0 < n → n ≤ maxStates → m ≤ maxSteps → ((x : Update) → List·Memᴰ x (writtenUpdates n m marks from to key) → Writable x) → items (recordOf n m marks from to key) ≡ States n ∷ numbered 4 (writtenUpdates n m marks from to key)
+unfolding items all counted named recordOf same
+items-record n m marks from to key one few low w =
+    rw (head-lines n (bytesOf (writtenUpdates n m marks from to key)), lines-bytes (writtenUpdates n m marks from to key), count-back n (omega arith) few)
+    (ap (λ (l : List Item). States n ∷ l) (further-numbered (writtenUpdates n m marks from to key) 4 w (omega (arith, updates-count n m marks from to key))))

@@ -1,4 +1,4 @@
--- The record of some tables: "names line, T lines by rising state, steps in list order, C lines by rising state, each line ended by a newline". It "uses only the marks 2 and 4 and the listed steps, on tables that do not fit too", with the byte of each step's key, and "the new line" of names (document 02, #101).
+-- The record of some tables: "a line `states` and a line with the count" (document 02, #107), "names line, T lines by rising state, steps in list order, C lines by rising state, each line ended by a newline". It "uses only the marks 2 and 4 and the listed steps, on tables that do not fit too", with the byte of each step's key, and "the new line" of names (document 02, #101).
 -- Assumes nothing.
 use mathlib.Core.Bool.{Bool, true, cond}
 use mathlib.Core.List.{List, [], _∷_, _++_}
@@ -10,7 +10,7 @@ use Rattle.gid.specs.declared.Update.the-variants.{Step, Terminal, Close}
 use Rattle.gid.specs.Updates.{edge}
 use Rattle.tables.specs.Marks.{hasTerminal, hasClosed}
 use Rattle.record.specs.declared.line.Form.the-variants.{Keyed}
-use Rattle.record.specs.Text.{names, text}
+use Rattle.record.specs.Text.{decimal, statesLine, names, text}
 use Rattle.writer.specs.declared.marking.Mark.{Mark}
 use Rattle.writer.specs.declared.marking.Mark.the-variants.{Terminal as ForTerminal, Close as ForClose}
 
@@ -61,6 +61,10 @@ bytesOf (x ∷ l) = lineBytes x ++ bytesOf l
 abbrev pub namesBytes : List ℕ
 namesBytes = names Keyed ++ (10 ∷ [])
 
+-- "the writer always puts them, with its n"
+abbrev pub headBytes : ℕ → List ℕ
+headBytes n = statesLine ++ (10 ∷ []) ++ decimal n ++ (10 ∷ namesBytes)
+
 -- The record's bytes.
 unfoldable pub recordOf : ℕ → ℕ → (marks from to key : List ℕ) → List ℕ
-recordOf n m marks from to key = namesBytes ++ bytesOf (writtenUpdates n m marks from to key)
+recordOf n m marks from to key = headBytes n ++ bytesOf (writtenUpdates n m marks from to key)

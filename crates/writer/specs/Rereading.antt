@@ -1,4 +1,4 @@
--- What reading a written record comes to: "For fitting tables, reading that record with the same limit gives the same marks, steps and statuses, and unseen from n on." The keys are the same too. proofs/RoundTrip.antt proves it (`read-back-same`).
+-- What reading a written record comes to: "For fitting tables, reading that record with the same limit gives the same marks, steps and statuses, and unseen from n on." The keys are the same too (document 02, #101), and so is n (#107). proofs/RoundTrip.antt proves it (`read-back-same`).
 -- Assumes nothing.
 use mathlib.Core.Path.{_≡_}
 use mathlib.Core.Option.{none}
@@ -21,7 +21,7 @@ pub record SameTables (g : Graph) (t t′ : Tables) : Type 0 where
   pub status : (s : ℕ) → s < g .n → getD (t′ .status) s 0 ≡ getD (t .status) s 0
   pub unseen : (s : ℕ) → g .n ≤ s → s < readerStates → (getD (t′ .status) s 0 ≡ statusUnseen) × (getD (t′ .marks) s 0 ≡ 0)
 
--- Every line is accepted, as many steps are listed, and the tables are the same.
+-- Every line is accepted, the state value has the same n and as many steps, and the tables are the same.
 pub record ReadBack (g : Graph) (t t′ : Tables) (r : ReadAnswer) : Type 0 where
-  pub answer : readOutcome r ≡ accepted (record { graph = record { n = readerStates; limit = g .limit; steps = g .steps }; refusal = none })
+  pub answer : readOutcome r ≡ accepted (record { graph = record { n = g .n; limit = g .limit; steps = g .steps }; refusal = none })
   pub tables : SameTables g t t′

@@ -4,7 +4,7 @@ ghost use lib.ListN.{length};
 ghost use Rattle.gid.specs.declared.Update.{Update};
 ghost use Rattle.gid.specs.Updates.{edge};
 ghost use Rattle.record.specs.Text.{WroteAt};
-ghost use Rattle.writer.specs.Order.{markedLines, stepLines, lineBytes, bytesOf, recordOf};
+ghost use Rattle.writer.specs.Order.{markedLines, stepLines, lineBytes, bytesOf, headBytes, recordOf};
 ghost use Rattle.writer.specs.Sizing.{markLine};
 use crate::marking::Mark;
 use crate::marking::has;
@@ -12,6 +12,7 @@ use crate::marking::update_of;
 use gid::Edge;
 use gid::Update;
 use record::put_bytes_at;
+use record::put_number_at;
 use record::put_update;
 
 // An update's line, in the rest of the buffer.
@@ -78,7 +79,17 @@ fn put_steps(buf: &mut [u8], at: usize, m: usize, from: &[u16], to: &[u16], key:
     next
 }
 
-// "names line, T lines by rising state, steps in list order, C lines by rising state"
+// "the writer always puts them, with its n": the line `states`, the count, and the names line.
+fn put_head(buf: &mut [u8], at: usize, n: usize) -> usize
+    requires { ⌜ at + length (headBytes n) ≤ length (now buf) ⌝ }
+    ensures { λ r. ⌜ WroteAt at (headBytes n) (now (buf .entry)) (now (buf .exit)) r ⌝ }
+{
+    let count = put_bytes_at(buf, at, b"states\n");
+    let end = put_number_at(buf, count, n);
+    put_bytes_at(buf, end, b"\nkind from to key\n")
+}
+
+// The head of the record, then "T lines by rising state, steps in list order, C lines by rising state"
 pub fn put_record(
     buf: &mut [u8],
     at: usize,
@@ -92,7 +103,7 @@ pub fn put_record(
     requires { ⌜ (n ≤ length (now marks)) × (m ≤ length (now from)) × (m ≤ length (now to)) × (m ≤ length (now key)) × (at + length (recordOf n m (now marks) (now from) (now to) (now key)) ≤ length (now buf)) ⌝ }
     ensures { λ r. ⌜ WroteAt at (recordOf n m (now (marks .entry)) (now (from .entry)) (now (to .entry)) (now (key .entry))) (now (buf .entry)) (now (buf .exit)) r ⌝ }
 {
-    let terminals = put_bytes_at(buf, at, b"kind from to key\n");
+    let terminals = put_head(buf, at, n);
     let steps = put_marks(buf, terminals, Mark::Terminal, n, marks);
     let closes = put_steps(buf, steps, m, from, to, key);
     put_marks(buf, closes, Mark::Close, n, marks)

@@ -97,7 +97,7 @@ fn steps_size(m: usize, from: &[u16], to: &[u16], key: &[u8]) -> usize
     size
 }
 
-// The length of the record. Its names line has 17 bytes.
+// The length of the record. Its head has 25 bytes and the count's digits.
 pub fn record_size(n: usize, m: usize, marks: &[u8], from: &[u16], to: &[u16], key: &[u8]) -> usize
     requires { ⌜ (n ≤ length (now marks)) × (n ≤ maxStates) × (m ≤ length (now from)) × (m ≤ length (now to)) × (m ≤ length (now key)) × (m ≤ maxSteps) ⌝ }
     ensures { λ r. ⌜ r ≡ length (recordOf n m (now (marks .entry)) (now (from .entry)) (now (to .entry)) (now (key .entry))) ⌝ }
@@ -105,5 +105,5 @@ pub fn record_size(n: usize, m: usize, marks: &[u8], from: &[u16], to: &[u16], k
     let terminals = marks_size(Mark::Terminal, n, marks);
     let steps = steps_size(m, from, to, key);
     let closes = marks_size(Mark::Close, n, marks);
-    17 + terminals + steps + closes
+    25 + digits(n) + terminals + steps + closes
 }

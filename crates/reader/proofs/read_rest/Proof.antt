@@ -1,11 +1,11 @@
--- `read_rest` reads a record to its end, and its last line.
+-- `read_rest` reads a record to its end, and the lines that lack their newline.
 -- Assumes nothing.
 use mathlib.Core.Path.{sym, _∙_}
 use native.Mathlib.Omega.{arith}
 use lib.Seq.{length-take-le}
 use Rattle.record.proofs.Splitting.{last-short, last-part}
 use Rattle.reader.specs.Advancing.{rests}
-use Rattle.reader.proofs.Whole.{last-left}
+use Rattle.reader.proofs.Ending.{last-all}
 use borrow.Author.Needs.{needs}
 use Rattle.reader.proofs.read_rest.Statement.{statement}
 use Rattle.reader.proofs.read_rest.Tie as tie
@@ -23,8 +23,8 @@ at-rest c = at-lacking c .before .before .before .before .before .before .before
 advance-requires : tie.Need-advance-requires
 advance-requires c κs = search needs
 
-slice-aggregate-newline : tie.Need-slice-aggregate-newline
-slice-aggregate-newline c = search needs
+slice-aggregate-newlines : tie.Need-slice-aggregate-newlines
+slice-aggregate-newlines c = search needs
 
 lacking-requires : tie.Need-lacking-requires
 lacking-requires c κs = search needs
@@ -82,14 +82,14 @@ returns c =
     let last = at-last c .advance2 .ensures in
     let s = at-rest c .advance .result .reader .splitter in
     let ends = last-part s _ (at-lacking c .lacking .ensures) in
-    rests (at-rest c .advance .ensures .2) ends (last .2) (last-left _ _ (rw ends (last-short s)) (last .1)) (c .answer-with .ensures)
+    rests (at-rest c .advance .ensures .2) ends (last .2) (last-all ends (last .2)) (c .answer-with .ensures)
 
 pub read-rest-spec : {M : Type 1} → statement M
 read-rest-spec =
     tie.close
     (tie.spec
     advance-requires
-    slice-aggregate-newline
+    slice-aggregate-newlines
     lacking-requires
     slice-aggregate-advance
     advance-requires-2

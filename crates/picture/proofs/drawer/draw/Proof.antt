@@ -23,8 +23,8 @@ at-start c = at-piece c .before .before .before .before .before .before .before 
 returns : tie.Need-returns
 returns c = short (c .if1 .taken) refl refl refl
 
-slice-aggregate-newline : tie.Need-slice-aggregate-newline
-slice-aggregate-newline c = search needs
+slice-aggregate-newlines : tie.Need-slice-aggregate-newlines
+slice-aggregate-newlines c = search needs
 
 lacking-requires : tie.Need-lacking-requires
 lacking-requires c κs = search needs
@@ -92,7 +92,7 @@ draw-spec =
     tie.close
     (tie.spec
     returns
-    slice-aggregate-newline
+    slice-aggregate-newlines
     lacking-requires
     slice-aggregate-piece-or
     piece-or-requires

@@ -12,11 +12,11 @@ use Rattle.picture.proofs.text.put_states.Statement.{statement}
 use Rattle.picture.proofs.text.put_states.Tie as tie
 
 abbrev Inv-loop : tie.InvT-loop
-Inv-loop buf₀ at status marks end₀ s₀ buf end s =
-    (s ≤ 2048) × (length buf ≡ length buf₀) × WroteAt at (statesText s (λ i. getD status i 0) (λ i. hasTerminal (getD marks i 0))) buf₀ buf end × (end ≤ at + 69 * s)
+Inv-loop buf₀ at n status marks end₀ s₀ buf end s =
+    (s ≤ n) × (length buf ≡ length buf₀) × WroteAt at (statesText s (λ i. getD status i 0) (λ i. hasTerminal (getD marks i 0))) buf₀ buf end × (end ≤ at + 69 * s)
 
 abbrev μ-loop : tie.MeasureT-loop
-μ-loop buf₀ at status marks end₀ s₀ buf end s = 2048 - s
+μ-loop buf₀ at n status marks end₀ s₀ buf end s = n - s
 
 loop-holds : tie.Need-loop-holds Inv-loop μ-loop
 loop-holds c =
@@ -32,7 +32,7 @@ is-terminal-requires c κs = tt
 put-state-requires : tie.Need-put-state-requires Inv-loop μ-loop
 put-state-requires c κs =
     let l = c .before .before .before .before .loop in
-    (omega arith, omega (arith, c .before .before .before .before .before .before .before .before .pre, l .inv .1, l .inv .3))
+    (omega (arith, c .before .before .before .before .before .before .before .before .pre .0), omega (arith, c .before .before .before .before .before .before .before .before .pre .1, l .inv .1, l .inv .3))
 
 add-s : tie.Need-add-s Inv-loop μ-loop
 add-s c = omega arith
@@ -45,7 +45,7 @@ loop-again c =
     let a = c .before .before .before .before .before .before .before .before .before .before .before .args in
     let l = c .before .before .before .before .before .before .before .loop in
     let w = c .before .before .put-state in
-    (omega arith, w .kept .0 ∙ l .inv .1, states-on (λ i. getD (a .status .now) i 0) (λ i. hasTerminal (getD (a .marks .now) i 0)) (l .s) (c .before .before .before .before .status-of .ensures) (c .before .before .before .is-terminal .ensures) (l .inv .2) (w .ensures .0) (omega (arith, c .before .before .before .before .before .before .before .before .before .before .before .pre, l .inv .3, w .ensures .1)), omega (arith, l .inv .3, w .ensures .1))
+    (omega arith, w .kept .0 ∙ l .inv .1, states-on (λ i. getD (a .status .now) i 0) (λ i. hasTerminal (getD (a .marks .now) i 0)) (l .s) (c .before .before .before .before .status-of .ensures) (c .before .before .before .is-terminal .ensures) (l .inv .2) (w .ensures .0) (omega (arith, c .before .before .before .before .before .before .before .before .before .before .before .pre .1, l .inv .3, w .ensures .1)), omega (arith, l .inv .3, w .ensures .1))
 
 same-length : tie.Need-same-length Inv-loop μ-loop
 same-length c = c .before .loop .inv .1
@@ -53,7 +53,7 @@ same-length c = c .before .loop .inv .1
 returns : tie.Need-returns Inv-loop μ-loop
 returns c =
     let l = c .before .loop in
-    let q : l .s ≡ 2048 = omega arith in
+    let q : l .s ≡ c .before .before .before .before .before .args .n = omega arith in
     (rw (← q) (l .inv .2), omega (arith, l .inv .3))
 
 pub put-states-spec : {M : Type 1} → statement M

@@ -1,47 +1,28 @@
 -- `first_line` meets its contract.
 -- Assumes nothing.
-use Rattle.record.specs.Splitting.{afterFirst}
 use mathlib.Core.Path.{sym, _∙_}
+use Rattle.record.specs.Splitting.{afterFirst}
 use borrow.Author.Needs.{needs}
 use Rattle.record.proofs.splitter.first_line.Statement.{statement}
 use Rattle.record.proofs.splitter.first_line.Tie as tie
 
-is-names-requires : tie.Need-is-names-requires
-is-names-requires c κs = search needs
-
-named-requires : tie.Need-named-requires
-named-requires c κs = search needs
-
-returns : tie.Need-returns
-unfolding afterFirst
-returns c = rw (sym (c .before .before .is-names .ensures) ∙ c .before .if1 .taken) (c .named .ensures)
-
-is-names-requires-2 : tie.Need-is-names-requires-2
-is-names-requires-2 c κs = search needs
-
-named-requires-2 : tie.Need-named-requires-2
-named-requires-2 c κs = search needs
-
-returns-2 : tie.Need-returns-2
-unfolding afterFirst
-returns-2 c = rw (sym (c .before .before .before .before .is-names .ensures) ∙ c .before .before .before .if1 .left, sym (c .before .before .is-names2 .ensures) ∙ c .before .if2 .taken) (c .named2 .ensures)
+is-states-requires : tie.Need-is-states-requires
+is-states-requires c κs = search needs
 
 empty-requires : tie.Need-empty-requires
 empty-requires c κs = search needs
 
-returns-3 : tie.Need-returns-3
+returns : tie.Need-returns
 unfolding afterFirst
-returns-3 c = rw (sym (c .before .before .before .before .is-names .ensures) ∙ c .before .before .before .if1 .left, sym (c .before .before .is-names2 .ensures) ∙ c .before .if2 .left, c .empty .ensures)
+returns c = rw (sym (c .before .before .is-states .ensures) ∙ c .before .if1 .taken, c .empty .ensures)
+
+names-line-requires : tie.Need-names-line-requires
+names-line-requires c κs = search needs
+
+returns-2 : tie.Need-returns-2
+unfolding afterFirst
+returns-2 c = rw (sym (c .before .before .is-states .ensures) ∙ c .before .if1 .left) (c .names-line .ensures)
 
 pub first-line-spec : {M : Type 1} → statement M
 first-line-spec =
-    tie.close
-    (tie.spec
-    is-names-requires
-    named-requires
-    returns
-    is-names-requires-2
-    named-requires-2
-    returns-2
-    empty-requires
-    returns-3)
+    tie.close (tie.spec is-states-requires empty-requires returns names-line-requires returns-2)

@@ -18,8 +18,8 @@ returns c = rw (lt-leb (c .before .before .args .number) 65535 (c .before .if1 .
 empty-requires-2 : tie.Need-empty-requires-2
 empty-requires-2 c κs = search needs
 
-add-t9 : tie.Need-add-t9
-add-t9 c = search needs
+add-t10 : tie.Need-add-t10
+add-t10 c = search needs
 
 parse-requires : tie.Need-parse-requires
 parse-requires c κs = search needs
@@ -38,7 +38,7 @@ further-line-spec =
     empty-requires
     returns
     empty-requires-2
-    add-t9
+    add-t10
     parse-requires
     item-of-requires
     returns-2)

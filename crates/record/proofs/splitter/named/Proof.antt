@@ -7,8 +7,11 @@ use Rattle.record.proofs.splitter.named.Tie as tie
 empty-requires : tie.Need-empty-requires
 empty-requires c κs = search needs
 
+add-t4 : tie.Need-add-t4
+add-t4 c = search needs
+
 returns : tie.Need-returns
 returns c = rw (c .empty .ensures)
 
 pub named-spec : {M : Type 1} → statement M
-named-spec = tie.close (tie.spec empty-requires returns)
+named-spec = tie.close (tie.spec empty-requires add-t4 returns)

@@ -30,8 +30,8 @@ least-requires c κs = search needs
 returns : tie.Need-returns
 returns c = full (rw (← c .before .before .before .before .place .ensures) (c .before .before .is-short .ensures .0 (c .before .if1 .taken))) (rw (c .before .before .before .start .ensures, c .least .ensures, c .before .before .before .before .place .ensures)) refl refl
 
-slice-aggregate-newline : tie.Need-slice-aggregate-newline
-slice-aggregate-newline c = search needs
+slice-aggregate-newlines : tie.Need-slice-aggregate-newlines
+slice-aggregate-newlines c = search needs
 
 lacking-requires : tie.Need-lacking-requires
 lacking-requires c κs = search needs
@@ -102,7 +102,7 @@ list-spec =
     is-short-requires
     least-requires
     returns
-    slice-aggregate-newline
+    slice-aggregate-newlines
     lacking-requires
     slice-aggregate-piece-or
     piece-or-requires

@@ -10,12 +10,12 @@ use Rattle.report.proofs.totals.count.Statement.{statement}
 use Rattle.report.proofs.totals.count.Tie as tie
 
 abbrev Inv-loop : tie.InvT-loop
-Inv-loop status open₀ unknown₀ live₀ dead₀ i₀ «open» unknown live dead i =
-    (i ≤ 2048) × («open» ≡ having i (λ s. getD status s 0) 1) × (unknown ≡ having i (λ s. getD status s 0) 2)
+Inv-loop n status open₀ unknown₀ live₀ dead₀ i₀ «open» unknown live dead i =
+    (i ≤ n) × («open» ≡ having i (λ s. getD status s 0) 1) × (unknown ≡ having i (λ s. getD status s 0) 2)
     × ((live ≡ having i (λ s. getD status s 0) 3) × (dead ≡ having i (λ s. getD status s 0) 4))
 
 abbrev μ-loop : tie.MeasureT-loop
-μ-loop status open₀ unknown₀ live₀ dead₀ i₀ «open» unknown live dead i = 2048 - i
+μ-loop n status open₀ unknown₀ live₀ dead₀ i₀ «open» unknown live dead i = n - i
 
 loop-holds : tie.Need-loop-holds Inv-loop μ-loop
 loop-holds c =
@@ -29,25 +29,25 @@ cast-open : tie.Need-cast-open Inv-loop μ-loop
 cast-open c = tt
 
 add-open : tie.Need-add-open Inv-loop μ-loop
-add-open c = record { fits = omega (arith, counted-fits (c .before .before .loop .i) (λ s. getD (c .before .before .before .before .args .status .now) s 0) 1 (c .before .before .loop .«open») (c .status-of .result) (c .before .before .loop .inv .1) (c .status-of .ensures) (c .before .loop-test .taken)) }
+add-open c = record { fits = omega (arith, counted-fits (c .before .before .loop .i) (λ s. getD (c .before .before .before .before .args .status .now) s 0) 1 (c .before .before .loop .«open») (c .status-of .result) (c .before .before .loop .inv .1) (c .status-of .ensures) (omega (arith, c .before .loop-test .taken, c .before .before .before .before .pre))) }
 
 cast-unknown : tie.Need-cast-unknown Inv-loop μ-loop
 cast-unknown c = tt
 
 add-unknown : tie.Need-add-unknown Inv-loop μ-loop
-add-unknown c = record { fits = omega (arith, counted-fits (c .before .before .loop .i) (λ s. getD (c .before .before .before .before .args .status .now) s 0) 2 (c .before .before .loop .unknown) (c .status-of .result) (c .before .before .loop .inv .2) (c .status-of .ensures) (c .before .loop-test .taken)) }
+add-unknown c = record { fits = omega (arith, counted-fits (c .before .before .loop .i) (λ s. getD (c .before .before .before .before .args .status .now) s 0) 2 (c .before .before .loop .unknown) (c .status-of .result) (c .before .before .loop .inv .2) (c .status-of .ensures) (omega (arith, c .before .loop-test .taken, c .before .before .before .before .pre))) }
 
 cast-live : tie.Need-cast-live Inv-loop μ-loop
 cast-live c = tt
 
 add-live : tie.Need-add-live Inv-loop μ-loop
-add-live c = record { fits = omega (arith, counted-fits (c .before .before .loop .i) (λ s. getD (c .before .before .before .before .args .status .now) s 0) 3 (c .before .before .loop .live) (c .status-of .result) (c .before .before .loop .inv .3 .0) (c .status-of .ensures) (c .before .loop-test .taken)) }
+add-live c = record { fits = omega (arith, counted-fits (c .before .before .loop .i) (λ s. getD (c .before .before .before .before .args .status .now) s 0) 3 (c .before .before .loop .live) (c .status-of .result) (c .before .before .loop .inv .3 .0) (c .status-of .ensures) (omega (arith, c .before .loop-test .taken, c .before .before .before .before .pre))) }
 
 cast-dead : tie.Need-cast-dead Inv-loop μ-loop
 cast-dead c = tt
 
 add-dead : tie.Need-add-dead Inv-loop μ-loop
-add-dead c = record { fits = omega (arith, counted-fits (c .before .before .loop .i) (λ s. getD (c .before .before .before .before .args .status .now) s 0) 4 (c .before .before .loop .dead) (c .status-of .result) (c .before .before .loop .inv .3 .1) (c .status-of .ensures) (c .before .loop-test .taken)) }
+add-dead c = record { fits = omega (arith, counted-fits (c .before .before .loop .i) (λ s. getD (c .before .before .before .before .args .status .now) s 0) 4 (c .before .before .loop .dead) (c .status-of .result) (c .before .before .loop .inv .3 .1) (c .status-of .ensures) (omega (arith, c .before .loop-test .taken, c .before .before .before .before .pre))) }
 
 add-i : tie.Need-add-i Inv-loop μ-loop
 add-i c = omega arith
@@ -61,7 +61,7 @@ loop-again c =
 
 returns : tie.Need-returns Inv-loop μ-loop
 returns c =
-    let z : c .before .loop .i ≡ 2048 = omega arith in
+    let z : c .before .loop .i ≡ c .before .before .before .args .n = omega arith in
     let v = c .before .loop .inv in
     rw (v .1, v .2, v .3 .0, v .3 .1, z) refl
 

@@ -1,0 +1,255 @@
+-- What the head of a record says of its states is known by its first two lines, and a count comes at the front of a record's items or not at all.
+-- Assumes nothing.
+use mathlib.Core.Path.{_≡_, refl, sym, _∙_, ap, subst}
+use mathlib.Core.Logic.{_⊎_, inl, inr, ⊎-elim}
+use mathlib.Core.Bool.{Bool, true, false, cond, false≢true}
+use mathlib.Core.List.{List, [], _∷_, _++_, append-assoc, append-nil}
+use mathlib.Core.Option.{Option, some, none}
+use Prim.Native.Nat.{ℕ, suc, _+_, _≤_, _<_}
+use native.Mathlib.Omega.{arith}
+use lib.Dec.{leb}
+use lib.ListN.{length, drop, length-append, drop-of-length-le}
+use lib.Seq.{drop-at}
+use Rattle.gid.specs.Refusals.{maxStates}
+use Rattle.gid.specs.declared.Update.{Update}
+use Rattle.record.specs.declared.line.Form.{Form}
+use Rattle.record.specs.declared.line.Form.the-variants.{Plain, Keyed}
+use Rattle.record.specs.declared.line.Line.{Line}
+use Rattle.record.specs.declared.splitter.Item.{Item}
+use Rattle.record.specs.declared.splitter.Item.the-variants.{Nothing, Update as Read, Malformed, BadNames, TooMany, States, BadCount}
+use Rattle.record.specs.Text.{statesLine, names}
+use Rattle.record.specs.Grammar.{value, lineOf, countOf}
+use Rattle.record.specs.Lines.{lines, before}
+use Rattle.record.specs.Items.{same, lineItem, maxLines, further, named, countItems, counted, all, items, countIn}
+use Rattle.record.specs.Buffer.{emptyLine, withByte, withBytes, filledFrom, isStatesIn, lineCount}
+use Rattle.record.specs.Splitting.{countFed}
+use Rattle.record.proofs.Reading.{count-only}
+use Rattle.record.proofs.Splitting.{Unbroken, Holds, holds-empty, holds-more, states-held, count-held, lines-break, lines-last, Broken, broken}
+
+-- The lines behind a count hold none.
+abbrev pub NoCount : Item → Type 0
+NoCount Nothing = Unit {0}
+NoCount (Read x) = Unit {0}
+NoCount (Malformed n) = Unit {0}
+NoCount (BadNames n) = Unit {0}
+NoCount TooMany = Unit {0}
+NoCount (States c) = ⊥
+NoCount BadCount = Unit {0}
+
+abbrev pub NoCounts : List Item → Type 0
+NoCounts [] = Unit {0}
+NoCounts (a ∷ l) = NoCount a × NoCounts l
+
+-- The first line may be one, from 1 to 2,048.
+abbrev pub MayCount : Item → Type 0
+MayCount Nothing = Unit {0}
+MayCount (Read x) = Unit {0}
+MayCount (Malformed n) = Unit {0}
+MayCount (BadNames n) = Unit {0}
+MayCount TooMany = Unit {0}
+MayCount (States c) = (1 ≤ c) × (c ≤ maxStates)
+MayCount BadCount = Unit {0}
+
+abbrev pub Headed : List Item → Type 0
+Headed [] = Unit {0}
+Headed (a ∷ l) = MayCount a × NoCounts l
+
+line-uncounted : (n : ℕ) (o : Option Update) → NoCount (lineItem n o)
+line-uncounted n none = tt
+line-uncounted n (some x) = tt
+
+further-uncounted : (f : Form) (n : ℕ) (ls : List (List ℕ)) → NoCounts (further f n ls)
+unfolding further
+further-uncounted f n [] = tt
+further-uncounted f n (l ∷ ls) = by (leb n maxLines) (further-uncounted f (n + 1) ls)
+  where
+    by : (t : Bool) → NoCounts (further f (n + 1) ls) → NoCounts (cond t (lineItem n (lineOf f l) ∷ further f (n + 1) ls) (TooMany ∷ []))
+    by true h = (line-uncounted n (lineOf f l), h)
+    by false h = (tt, tt)
+
+named-uncounted : (n : ℕ) (ls : List (List ℕ)) → NoCounts (named n ls)
+unfolding named
+named-uncounted n [] = (tt, tt)
+named-uncounted n (l ∷ ls) = by (same l (names Plain)) (same l (names Keyed))
+  where
+    by : (t u : Bool) → NoCounts (cond t (further Plain (n + 1) ls) (cond u (further Keyed (n + 1) ls) (BadNames n ∷ [])))
+    by true u = further-uncounted Plain (n + 1) ls
+    by false true = further-uncounted Keyed (n + 1) ls
+    by false false = (tt, tt)
+
+may-count : (a : Item) → NoCount a → MayCount a
+may-count Nothing h = tt
+may-count (Read x) h = tt
+may-count (Malformed n) h = tt
+may-count (BadNames n) h = tt
+may-count TooMany h = tt
+may-count (States c) h = absurd h
+may-count BadCount h = tt
+
+pub uncounted-headed : (l : List Item) → NoCounts l → Headed l
+uncounted-headed [] h = tt
+uncounted-headed (a ∷ l) h = (may-count a (h .0), h .1)
+
+counted-headed : (ls : List (List ℕ)) → Headed (counted ls)
+unfolding counted
+counted-headed [] = (tt, tt)
+counted-headed (l ∷ ls) = by (countOf l) refl
+  where
+    by : (o : Option ℕ) → countOf l ≡ o → Headed (countItems o (named 3 ls))
+    by none e = (tt, tt)
+    by (some c) e = let w = count-only l c e in ((w .1, w .2), named-uncounted 3 ls)
+
+all-headed : (ls : List (List ℕ)) → Headed (all ls)
+unfolding all
+all-headed [] = uncounted-headed (named 1 []) (named-uncounted 1 [])
+all-headed (l ∷ ls) = by (same l statesLine)
+  where
+    by : (t : Bool) → Headed (cond t (counted ls) (named 1 (l ∷ ls)))
+    by true = counted-headed ls
+    by false = uncounted-headed (named 1 (l ∷ ls)) (named-uncounted 1 (l ∷ ls))
+
+-- Of a record's items only the first may be a count.
+pub items-headed : (s : List ℕ) → Headed (items s)
+unfolding items
+items-headed s = all-headed (lines s)
+
+-- the front of a list
+pub headed-front : (l m : List Item) → Headed (l ++ m) → Headed l
+headed-front [] m h = tt
+headed-front (a ∷ l) m h = (h .0, front l (h .1))
+  where
+    front : (k : List Item) → NoCounts (k ++ m) → NoCounts k
+    front [] h = tt
+    front (b ∷ k) h = (h .0, front k (h .1))
+
+-- and what is behind it
+pub headed-back : (a : Item) (l m : List Item) → Headed (a ∷ l ++ m) → NoCounts m
+headed-back a l m h = back l (h .1)
+  where
+    back : (k : List Item) → NoCounts (k ++ m) → NoCounts m
+    back [] h = h
+    back (b ∷ k) h = back k (h .1)
+
+-- what the lines from the names line on say of the states: nothing
+further-in : (f : Form) (n : ℕ) (ls : List (List ℕ)) → countIn (further f n ls) ≡ Nothing
+unfolding further
+further-in f n [] = refl
+further-in f n (l ∷ ls) = by (leb n maxLines)
+  where
+    line : (o : Option Update) (m : List Item) → countIn (lineItem n o ∷ m) ≡ Nothing
+    line none m = refl
+    line (some x) m = refl
+
+    by : (t : Bool) → countIn (cond t (lineItem n (lineOf f l) ∷ further f (n + 1) ls) (TooMany ∷ [])) ≡ Nothing
+    by true = line (lineOf f l) (further f (n + 1) ls)
+    by false = refl
+
+named-in : (n : ℕ) (ls : List (List ℕ)) → countIn (named n ls) ≡ Nothing
+unfolding named
+named-in n [] = refl
+named-in n (l ∷ ls) = by (same l (names Plain)) (same l (names Keyed))
+  where
+    by : (t u : Bool) → countIn (cond t (further Plain (n + 1) ls) (cond u (further Keyed (n + 1) ls) (BadNames n ∷ []))) ≡ Nothing
+    by true u = further-in Plain (n + 1) ls
+    by false true = further-in Keyed (n + 1) ls
+    by false false = refl
+
+count-in : (o : Option ℕ) (m : List Item) → countIn (countItems o m) ≡ countFed o .item
+count-in none m = refl
+count-in (some c) m = refl
+
+-- What is said by the lines behind `states`: by the next one, which may be missing.
+counted-in : (u : List ℕ) → countIn (counted (lines u)) ≡ countFed (countOf (before u)) .item
+unfolding counted lines before countOf value
+counted-in [] = refl
+counted-in (b ∷ u) = by (broken (b ∷ u))
+  where
+    first : (ls : List (List ℕ)) → lines (b ∷ u) ≡ before (b ∷ u) ∷ ls → countIn (counted (lines (b ∷ u))) ≡ countFed (countOf (before (b ∷ u))) .item
+    first ls e = rw e (count-in (countOf (before (b ∷ u))) (named 3 ls))
+
+    by : Unbroken (before (b ∷ u)) × Broken (b ∷ u) → countIn (counted (lines (b ∷ u))) ≡ countFed (countOf (before (b ∷ u))) .item
+    by (k, inl e) = first [] (lines-last b u (rw e at k) ∙ ap (λ (l : List ℕ). l ∷ []) (sym e))
+    by (k, inr (v, e)) = first (lines v) (ap lines e ∙ lines-break v k)
+
+-- A 17 stands alone.
+bad-counted : (ls : List (List ℕ)) → countIn (counted ls) ≡ BadCount → counted ls ≡ BadCount ∷ []
+unfolding counted
+bad-counted [] e = refl
+bad-counted (l ∷ ls) e = by (countOf l) e
+  where
+    by : (o : Option ℕ) → countIn (countItems o (named 3 ls)) ≡ BadCount → countItems o (named 3 ls) ≡ BadCount ∷ []
+    by none z = refl
+    by (some c) z = absurd (let w : _≡_ {A = ℕ} 0 1 = cc in omega arith)
+
+bad-all : (ls : List (List ℕ)) → countIn (all ls) ≡ BadCount → all ls ≡ BadCount ∷ []
+unfolding all
+bad-all [] e = absurd (let z = named-in 1 [] in let w : _≡_ {A = ℕ} 0 1 = cc in omega arith)
+bad-all (l ∷ ls) e = by (same l statesLine) e
+  where
+    by : (t : Bool) → countIn (cond t (counted ls) (named 1 (l ∷ ls))) ≡ BadCount → cond t (counted ls) (named 1 (l ∷ ls)) ≡ BadCount ∷ []
+    by true z = bad-counted ls z
+    by false z = absurd (let y = named-in 1 (l ∷ ls) in let w : _≡_ {A = ℕ} 0 1 = cc in omega arith)
+
+pub bad-alone : (s : List ℕ) → countIn (items s) ≡ BadCount → items s ≡ BadCount ∷ []
+unfolding items
+bad-alone s e = bad-all (lines s) e
+
+-- The line buffer that was filled with some bytes holds them.
+holds-bytes : (b : Line) (l u : List ℕ) → Holds b l → Holds (withBytes b u) (l ++ u)
+unfolding withBytes
+holds-bytes b l [] h = rw append-nil h
+holds-bytes b l (c ∷ u) h = subst (Holds (withBytes (withByte b c) u)) (append-assoc l (c ∷ []) u) (holds-bytes (withByte b c) (l ++ (c ∷ [])) u (holds-more b l c h))
+
+held : (u : List ℕ) → Holds (withBytes emptyLine u) u
+held u = holds-bytes emptyLine [] u holds-empty
+
+module _ (s : List ℕ) where
+  first-states : isStatesIn (filledFrom emptyLine s 0 .line) ≡ same (before s) statesLine
+  first-states = states-held (withBytes emptyLine (before s)) (before s) (held (before s))
+
+  -- The first line is another.
+  pub no-states : isStatesIn (filledFrom emptyLine s 0 .line) ≡ false → Nothing ≡ countIn (items s)
+  unfolding items all same lines
+  no-states e = sym (by s refl (sym first-states ∙ e))
+    where
+      other : (l : List ℕ) (ls : List (List ℕ)) → same l statesLine ≡ false → countIn (all (l ∷ ls)) ≡ Nothing
+      other l ls z = rw z (named-in 1 (l ∷ ls))
+
+      by : (t : List ℕ) → s ≡ t → same (before t) statesLine ≡ false → countIn (all (lines t)) ≡ Nothing
+      by [] q z = named-in 1 []
+      by (b ∷ t) q z = at (broken (b ∷ t))
+        where
+          at : Unbroken (before (b ∷ t)) × Broken (b ∷ t) → countIn (all (lines (b ∷ t))) ≡ Nothing
+          at (k, inl e) = rw (lines-last b t (rw e at k)) (other (b ∷ t) [] (rw e at z))
+          at (k, inr (v, e)) = rw (ap lines e ∙ lines-break v k) (other (before (b ∷ t)) (lines v) z)
+
+  -- It is `states`, and the bytes end with it.
+  pub missing-count : isStatesIn (filledFrom emptyLine s 0 .line) ≡ true → {next : ℕ} → next ≡ filledFrom emptyLine s 0 .next → length s ≤ next → BadCount ≡ countIn (items s)
+  unfolding items all counted same before
+  missing-count e n h = sym (by s refl (sym first-states ∙ e))
+    where
+      by : (t : List ℕ) → s ≡ t → same (before t) statesLine ≡ true → countIn (all (lines t)) ≡ BadCount
+      by [] q z = absurd (false≢true z)
+      by (b ∷ t) q z = at (broken (b ∷ t))
+        where
+          at : Unbroken (before (b ∷ t)) × Broken (b ∷ t) → countIn (all (lines (b ∷ t))) ≡ BadCount
+          at (k, inl e) = rw (lines-last b t (rw e at k), rw e at z) refl
+          at (k, inr (v, e)) = absurd (omega (arith, n, h, ap length e, length-append (before (b ∷ t)) (10 ∷ v), ap (λ (x : List ℕ). length (before x)) q, ap length q))
+
+  -- It is `states`, and the next one decides.
+  pub has-count : isStatesIn (filledFrom emptyLine s 0 .line) ≡ true → {next : ℕ} → next ≡ filledFrom emptyLine s 0 .next → next < length s → countFed (lineCount (filledFrom emptyLine s (next + 1) .line)) .item ≡ countIn (items s)
+  unfolding items all
+  has-count e {next} n h =
+      let z : next ≡ length (before s) = omega (arith, n) in
+      rw z (by (broken s))
+    where
+      by : Unbroken (before s) × Broken s → countFed (lineCount (filledFrom emptyLine s (length (before s) + 1) .line)) .item ≡ countIn (all (lines s))
+      by (k, inl q) = absurd (omega (arith, n, h, ap length q))
+      by (k, inr (v, q)) =
+          let behind : drop (length (before s) + 1) s ≡ v = ap (drop (length (before s) + 1)) (q ∙ sym (append-assoc (before s) (10 ∷ []) v)) ∙ drop-at (before s ++ (10 ∷ [])) v (length (before s) + 1) (length-append (before s) (10 ∷ [])) in
+          let u = before (drop (length (before s) + 1) s) in
+          ap (λ (o : Option ℕ). countFed o .item) (count-held (withBytes emptyLine u) u (held u)) ∙ ap (λ (x : List ℕ). countFed (countOf (before x)) .item) behind ∙ sym (counted-in v) ∙
+          sym (ap (λ (x : List (List ℕ)). countIn (all x)) (ap lines q ∙ lines-break v k) ∙ states)
+        where
+          states : countIn (all (before s ∷ lines v)) ≡ countIn (counted (lines v))
+          states = rw (sym first-states ∙ e)
