@@ -18,7 +18,7 @@ use Rattle.record.proofs.Heading.{Headed, items-headed}
 use Rattle.record.proofs.Placing.{placed-take}
 use Rattle.reader.specs.declared.task.Task.the-variants.{Read, End}
 use Rattle.reader.specs.Opening.{openRefusal}
-use Rattle.reader.specs.Replaying.{graphAfter, startOf, afterItems, recordStart, historyOf}
+use Rattle.reader.specs.Replaying.{withCount, startOf, afterItems, recordStart, historyOf}
 use Rattle.reader.specs.Reading.{recordLimit, recordGraph}
 use Rattle.reader.specs.Standing.{Standing}
 use Rattle.reader.specs.Advancing.{itemsOf}
@@ -35,7 +35,7 @@ pub progress-begun : {t t′ : Tables} {d : Drawer} {output : List ℕ} → Begi
 progress-begun {t} b e = rw (b .drawer, b .tables, e) (reads refl (record { lines = []; told = λ rest. sym (run-items rest); stands = opened-stands recordLimit t e }))
 
 -- a count leaves the step limit
-same-limit : (a : Item) (g : Graph) → graphAfter a g .limit ≡ g .limit
+same-limit : (a : Item) (g : Graph) → withCount a g .limit ≡ g .limit
 same-limit Nothing g = refl
 same-limit (Sent r) g = refl
 same-limit (Malformed n) g = refl

@@ -38,14 +38,14 @@ use Rattle.reader.specs.declared.driver.LineAnswer.the-variants.{Nothing
 use Rattle.reader.specs.declared.driver.Until.{Until}
 use Rattle.reader.specs.declared.driver.Until.the-variants.{News, Refusal, End}
 use Rattle.reader.specs.Turning.{itemAnswer, lineAnswer, Came, sent, nothing, malformed, badNames, tooMany, states, badCount}
-use Rattle.reader.specs.Replaying.{graphAfter, startOf, afterItems}
+use Rattle.reader.specs.Replaying.{withCount, startOf, afterItems}
 use Rattle.reader.specs.Opening.{readerStates}
 use Rattle.reader.specs.Standing.{Standing}
 use Rattle.reader.specs.Advancing.{Passed, itemsOf, Applies, none as no-line, next, waited, Quiet, found, ended, Bounded, Follows, Advances}
 use Rattle.reader.proofs.Lines.{answer-told, line-right, head-right}
 
 -- What comes of a line that is no update: its tag is another than an update's.
-pub came-other : (a : Item) {g : Graph} {t : Tables} → OneOf (0 ∷ 2 ∷ 3 ∷ 4 ∷ 5 ∷ 6 ∷ []) (tagOf the-type a) → Came a g t (graphAfter a g) t (itemAnswer a)
+pub came-other : (a : Item) {g : Graph} {t : Tables} → OneOf (0 ∷ 2 ∷ 3 ∷ 4 ∷ 5 ∷ 6 ∷ []) (tagOf the-type a) → Came a g t (withCount a g) t (itemAnswer a)
 came-other NoLine e = nothing
 came-other (Sent r) (inl e) = absurd (omega arith)
 came-other (Sent r) (inr (inl e)) = absurd (omega arith)
@@ -60,7 +60,7 @@ came-other (States c) e = states
 came-other BadCount e = badCount
 
 -- A line that is no count leaves the state value.
-pub uncounted : (a : Item) (g : Graph) → OneOf (0 ∷ 1 ∷ 2 ∷ 3 ∷ 4 ∷ 6 ∷ []) (tagOf the-type a) → g ≡ graphAfter a g
+pub uncounted : (a : Item) (g : Graph) → OneOf (0 ∷ 1 ∷ 2 ∷ 3 ∷ 4 ∷ 6 ∷ []) (tagOf the-type a) → g ≡ withCount a g
 uncounted NoLine g e = refl
 uncounted (Sent r) g e = refl
 uncounted (Malformed n) g e = refl
@@ -127,7 +127,7 @@ applies-within m {g} {t = t} n h no-line = same-none m g t
 applies-within m n h (next c a) = same-then (came-same m (λ z. h) c) (applies-within m (n .1) (omega (arith, came-states (n .0) c)) a)
 
 -- From the start of a record: the entries past its n are as they were.
-head-within : {a : Item} {g : Graph} {t : Tables} {g′ : Graph} {t′ : Tables} {o : LineAnswer} → Came a g t g′ t′ o → SameSize (graphAfter a g .n) g t g′ t′ × (g′ .n ≡ graphAfter a g .n)
+head-within : {a : Item} {g : Graph} {t : Tables} {g′ : Graph} {t′ : Tables} {o : LineAnswer} → Came a g t g′ t′ o → SameSize (withCount a g .n) g t g′ t′ × (g′ .n ≡ withCount a g .n)
 head-within {g = g} {t = t} nothing = (same-none (g .n) g t, refl)
 head-within {g = g} (sent p e w) = same-promise (g .n) (λ h. omega arith) p
 head-within {g = g} {t = t} malformed = (same-none (g .n) g t, refl)
@@ -140,7 +140,7 @@ pub begins-within : {g g′ : Graph} {t t′ : Tables} {l : List Passed} → Hea
 begins-within {g} {t = t} h no-line = same-none (g .n) g t
 begins-within {g} h (next {p = p} c a) =
     let w = head-within c in
-    same-then (w .0) (applies-within (graphAfter (p .item) g .n) (h .1) (omega (arith, w .1)) a)
+    same-then (w .0) (applies-within (withCount (p .item) g .n) (h .1) (omega (arith, w .1)) a)
 
 -- lines behind lines
 pub applies-then : {g g₁ g′ : Graph} {t t₁ t′ : Tables} {l m : List Passed} → Applies g t l g₁ t₁ → Applies g₁ t₁ m g′ t′ → Applies g t (l ++ m) g′ t′

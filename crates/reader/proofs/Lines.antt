@@ -33,7 +33,7 @@ use Rattle.record.proofs.Heading.{NoCount, MayCount}
 use Rattle.reader.specs.declared.driver.LineAnswer.{LineAnswer}
 use Rattle.reader.specs.Opening.{readerGraph, openRefusal, freshened}
 use Rattle.reader.specs.Turning.{Told, lineOutcome, lineAnswer, Came, sent, nothing, malformed, badNames, tooMany, states, badCount}
-use Rattle.reader.specs.Replaying.{graphAfter, outcomeOf, afterItem, sends}
+use Rattle.reader.specs.Replaying.{withCount, outcomeOf, afterItem, sends}
 use Rattle.reader.specs.Standing.{Standing}
 use Rattle.reader.specs.Reading.{graphOf}
 use Rattle.reader.proofs.Opening.{opened-fresh, opened-kept, opened-enough}
@@ -128,7 +128,7 @@ module _ {start : Graph} {h : History} {g : Graph} {t : Tables} (s : Standing st
   line-runs n r badCount = r
 
 -- Tables that fit for no update fit for fewer states too.
-fewer-fits : {g : Graph} {t : Tables} (c : ℕ) → c ≤ g .n → Consistent [] g t → Consistent [] (graphAfter (States c) g) t
+fewer-fits : {g : Graph} {t : Tables} (c : ℕ) → c ≤ g .n → Consistent [] g t → Consistent [] (withCount (States c) g) t
 unfolding listed
 fewer-fits {g} {t} c h k =
     record {
@@ -158,7 +158,7 @@ fewer-fits {g} {t} c h k =
     stepless s p = let w = k .successor .listed s p in omega (arith, w .1 .0, k .steps)
 
 -- A count is read before any update: the tables stand for as many states.
-pub counted-stands : {start g : Graph} {t : Tables} (c : ℕ) → c ≤ start .n → Standing start [] g t → Standing (graphAfter (States c) start) [] (graphAfter (States c) g) t
+pub counted-stands : {start g : Graph} {t : Tables} (c : ℕ) → c ≤ start .n → Standing start [] g t → Standing (withCount (States c) start) [] (withCount (States c) g) t
 counted-stands {start} {g} {t} c h s =
     record {
       legal = s .legal;
@@ -170,7 +170,7 @@ counted-stands {start} {g} {t} c h s =
     }
 
 -- The first line of a record: a count gives n, and any other leaves it.
-pub head-right : {start g : Graph} {t : Tables} {a : Item} {g′ : Graph} {t′ : Tables} {o : LineAnswer} → maxStates ≤ start .n → Standing start [] g t → MayCount a → Came a g t g′ t′ o → (lineOutcome o (t′ .news) ≡ lineTold (graphAfter a start) [] a) × Standing (graphAfter a start) (afterItem (graphAfter a start) [] a) g′ t′
+pub head-right : {start g : Graph} {t : Tables} {a : Item} {g′ : Graph} {t′ : Tables} {o : LineAnswer} → maxStates ≤ start .n → Standing start [] g t → MayCount a → Came a g t g′ t′ o → (lineOutcome o (t′ .news) ≡ lineTold (withCount a start) [] a) × Standing (withCount a start) (afterItem (withCount a start) [] a) g′ t′
 head-right w s m nothing = line-right s tt nothing
 head-right w s m (sent p e q) = line-right s tt (sent p e q)
 head-right w s m malformed = line-right s tt malformed

@@ -21,7 +21,7 @@ use Rattle.record.proofs.Heading.{MayCount, Headed, items-headed, headed-front,
 use Rattle.reader.specs.declared.start.Opened.{Opened}
 use Rattle.reader.specs.declared.start.Opened.the-variants.{Ready}
 use Rattle.reader.specs.Opening.{readerGraph, openRefusal, freshened, Opens}
-use Rattle.reader.specs.Replaying.{graphAfter, startOf, afterItem, afterItems}
+use Rattle.reader.specs.Replaying.{withCount, startOf, afterItem, afterItems}
 use Rattle.reader.specs.Standing.{Standing}
 use Rattle.reader.specs.Advancing.{Passed, itemsOf, Applies, Follows}
 use Rattle.reader.specs.Underway.{Underway}
@@ -52,7 +52,7 @@ underway-more {got = got} u part =
     record { lines = u .lines; told = λ rest. ap items (append-assoc got part rest) ∙ u .told (part ++ rest); stands = u .stands }
 
 -- a record has no more states than there can be
-may-few : (limit : ℕ) (a : Item) → MayCount a → graphAfter a (readerGraph limit) .n ≤ maxStates
+may-few : (limit : ℕ) (a : Item) → MayCount a → withCount a (readerGraph limit) .n ≤ maxStates
 may-few limit Nothing h = omega arith
 may-few limit (Sent r) h = omega arith
 may-few limit (Malformed n) h = omega arith
@@ -69,7 +69,7 @@ few-states limit (a ∷ l) h = may-few limit a (h .0)
 module _ (start : Graph) {g g′ : Graph} {t t′ : Tables} {l : List Passed} (wide : maxStates ≤ start .n) (a : Applies g t l g′ t′) where
   pub stands-more : (lines : List Item) → Headed (lines ++ itemsOf l) → Standing (startOf start lines) (afterItems (startOf start lines) [] lines) g t → Standing (startOf start (lines ++ itemsOf l)) (afterItems (startOf start (lines ++ itemsOf l)) [] (lines ++ itemsOf l)) g′ t′
   stands-more [] h s = begins-stands wide h s a
-  stands-more (x ∷ lines) h s = let n = graphAfter x start in subst (λ (h : History). Standing n h g′ t′) (sym (after-then n [] (x ∷ lines) (itemsOf l))) (applies-stands (headed-back x lines (itemsOf l) h) s a)
+  stands-more (x ∷ lines) h s = let n = withCount x start in subst (λ (h : History). Standing n h g′ t′) (sym (after-then n [] (x ∷ lines) (itemsOf l))) (applies-stands (headed-back x lines (itemsOf l) h) s a)
 
 pub underway-headed : {start : Graph} {got left left′ : List ℕ} {s s′ : Splitter} {g g′ : Graph} {t t′ : Tables} (u : Underway start got s left g t) (f : Follows s left g t s′ left′ g′ t′) → Headed (u .lines ++ itemsOf (f .passed))
 underway-headed {got = got} {left′ = left′} {s′ = s′} u f =

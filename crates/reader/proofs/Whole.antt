@@ -30,7 +30,7 @@ use Rattle.reader.specs.declared.driver.LineAnswer.the-variants.{Nothing
 use Rattle.reader.specs.declared.driver.Until.the-variants.{Refusal as UntilRefusal, End}
 use Rattle.reader.specs.Opening.{readerStates, readerGraph, openRefusal, freshened, Opens}
 use Rattle.reader.specs.Turning.{Told, lineOutcome, Came, sent, nothing, malformed, badNames, tooMany, states, badCount}
-use Rattle.reader.specs.Replaying.{graphAfter, startOf, outcomeOf, afterItem, recordStart, historyOf, Refusal, orLater, firstRefusal}
+use Rattle.reader.specs.Replaying.{withCount, startOf, outcomeOf, afterItem, recordStart, historyOf, Refusal, orLater, firstRefusal}
 use Rattle.reader.specs.Standing.{Standing}
 use Rattle.reader.specs.Advancing.{Passed, itemsOf, Applies, none as no-line, next, waited, Quiet, Stops, found, ended, Advances, ReadsRest, rests}
 use Rattle.reader.specs.Reading.{Reading, readOutcome, graphAfterRecord, readingOf, Reads, readBy, readWith}
@@ -87,7 +87,7 @@ first-refused {start} {h} n s (next {p = p} {l = l} c a) =
 begins-refused : {start : Graph} {g g′ : Graph} {t t′ : Tables} {l : List Passed} → maxStates ≤ start .n → Headed (itemsOf l) → Standing start [] g t → Applies g t l g′ t′ → firstRefusal (startOf start (itemsOf l)) [] (itemsOf l) ≡ refusalIn l
 begins-refused m h s no-line = refl
 begins-refused {start} m h s (next {p = p} {l = l} c a) =
-    let n = graphAfter (p .item) start in
+    let n = withCount (p .item) start in
     let w = head-right m s (h .0) c in
     told-refused n [] (p .item) (p .answer) (p .after .news) (w .0) (firstRefusal n (afterItem n [] (p .item)) (itemsOf l)) ∙
     ap (orRefused (p .answer)) (first-refused (h .1) (w .1) a)

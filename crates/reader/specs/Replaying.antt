@@ -13,19 +13,19 @@ use Rattle.tables.specs.declared.Graph.{Graph}
 use Rattle.reader.specs.Opening.{readerGraph}
 
 -- The state value behind a line: n is the record's count.
-abbrev pub graphAfter : Item → Graph → Graph
-graphAfter Nothing g = g
-graphAfter (Update r) g = g
-graphAfter (Malformed n) g = g
-graphAfter (BadNames n) g = g
-graphAfter TooMany g = g
-graphAfter (States c) g = record { n = c; limit = g .limit; steps = g .steps }
-graphAfter BadCount g = g
+abbrev pub withCount : Item → Graph → Graph
+withCount Nothing g = g
+withCount (Update r) g = g
+withCount (Malformed n) g = g
+withCount (BadNames n) g = g
+withCount TooMany g = g
+withCount (States c) g = record { n = c; limit = g .limit; steps = g .steps }
+withCount BadCount g = g
 
--- The state value that a record's lines are read with, by the first of them. "A record without it means 2,048": the reader's own n stays.
+-- The state value that lines are read with, by the first of them. "A record without it means 2,048": the reader's own n stays.
 abbrev pub startOf : Graph → List Item → Graph
 startOf start [] = start
-startOf start (a ∷ l) = graphAfter a start
+startOf start (a ∷ l) = withCount a start
 
 -- What comes of a line after the history h: its update's outcome, or its own number, "10: the names line is not exact", "11: a line is malformed", "12: line 65,536 exists", "17 as line 2". A count is accepted and has no news.
 abbrev pub outcomeOf : Graph → History → Item → Outcome (List ℕ)
@@ -51,7 +51,7 @@ abbrev pub afterItems : Graph → History → List Item → History
 afterItems start h [] = h
 afterItems start h (a ∷ l) = afterItems start (afterItem start h a) l
 
--- The state value of a record: "The reader's state value has n = the count", and the caller's limit.
+-- The state value that a record is read with: its count as n, and the caller's limit.
 abbrev pub recordStart : ℕ → List ℕ → Graph
 recordStart limit bytes = startOf (readerGraph limit) (items bytes)
 

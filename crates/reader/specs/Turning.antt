@@ -16,7 +16,7 @@ use Rattle.record.specs.declared.splitter.Item.{Item}
 use Rattle.record.specs.declared.splitter.Item.the-variants.{Nothing as NoLine, Update, Malformed, BadNames, TooMany, States, BadCount}
 use Rattle.record.specs.declared.splitter.Numbered.{Numbered}
 use Rattle.record.specs.Items.{itemNumber, itemLine}
-use Rattle.reader.specs.Replaying.{graphAfter}
+use Rattle.reader.specs.Replaying.{withCount}
 use Rattle.reader.specs.declared.driver.LineAnswer.{LineAnswer}
 use Rattle.reader.specs.declared.driver.LineAnswer.the-variants.{Nothing, Accepted, Refused}
 
@@ -51,5 +51,5 @@ pub data Came : Item → Graph → Tables → Graph → Tables → LineAnswer �
   malformed : {n : ℕ} {g : Graph} {t : Tables} → Came (Malformed n) g t g t (itemAnswer (Malformed n))
   badNames : {n : ℕ} {g : Graph} {t : Tables} → Came (BadNames n) g t g t (itemAnswer (BadNames n))
   tooMany : {g : Graph} {t : Tables} → Came TooMany g t g t (itemAnswer TooMany)
-  states : {c : ℕ} {g : Graph} {t : Tables} → Came (States c) g t (graphAfter (States c) g) t (itemAnswer (States c))
+  states : {c : ℕ} {g : Graph} {t : Tables} → Came (States c) g t (withCount (States c) g) t (itemAnswer (States c))
   badCount : {g : Graph} {t : Tables} → Came BadCount g t g t (itemAnswer BadCount)

@@ -5,7 +5,7 @@ ghost use lib.ListN.{length, drop};
 ghost use Rattle.tables.specs.Tables.{tablesOf};
 ghost use Rattle.record.specs.Splitting.{afterPart};
 ghost use Rattle.reader.specs.Turning.{itemAnswer, lineAnswer, Came};
-ghost use Rattle.reader.specs.Replaying.{graphAfter};
+ghost use Rattle.reader.specs.Replaying.{withCount};
 ghost use Rattle.reader.specs.Advancing.{waited, Advances};
 use crate::Reader;
 use engine::Answer;
@@ -168,7 +168,7 @@ impl Reader {
             _ => Turn {
                 reader: Reader {
                     splitter: after,
-                    engine: counted(engine, item),
+                    engine: with_count(engine, item),
                 },
                 answer: item_answer(item),
                 next,
@@ -210,8 +210,8 @@ pub fn is_refused(answer: LineAnswer) -> bool
 }
 
 // The engine behind a line that is no update: a count gives the number of states.
-fn counted(engine: Engine, item: Item) -> Engine
-    ensures { λ r. ⌜ r .graph ≡ graphAfter item (engine .graph) ⌝ }
+fn with_count(engine: Engine, item: Item) -> Engine
+    ensures { λ r. ⌜ r .graph ≡ withCount item (engine .graph) ⌝ }
 {
     let graph = engine.graph;
     match item {

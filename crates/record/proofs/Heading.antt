@@ -20,7 +20,7 @@ use Rattle.record.specs.declared.splitter.Item.the-variants.{Nothing, Up
 use Rattle.record.specs.Text.{statesLine, names}
 use Rattle.record.specs.Grammar.{value, lineOf, countOf}
 use Rattle.record.specs.Lines.{lines, before}
-use Rattle.record.specs.Items.{same, lineItem, maxLines, further, named, countItems, counted, all, items, countIn}
+use Rattle.record.specs.Items.{same, lineItem, maxLines, further, fromNames, countItems, fromCount, all, items, countIn}
 use Rattle.record.specs.Buffer.{emptyLine, withByte, withBytes, filledFrom, isStatesIn, lineCount}
 use Rattle.record.specs.Splitting.{countFed}
 use Rattle.record.proofs.Reading.{count-only}
@@ -67,8 +67,8 @@ further-uncounted f n (l ∷ ls) = by (leb n maxLines) (further-uncounted f (n +
     by true h = (line-uncounted n (lineOf f l), h)
     by false h = (tt, tt)
 
-named-uncounted : (n : ℕ) (ls : List (List ℕ)) → NoCounts (named n ls)
-unfolding named
+named-uncounted : (n : ℕ) (ls : List (List ℕ)) → NoCounts (fromNames n ls)
+unfolding fromNames
 named-uncounted n [] = (tt, tt)
 named-uncounted n (l ∷ ls) = by (same l (names Plain)) (same l (names Keyed))
   where
@@ -90,23 +90,23 @@ pub uncounted-headed : (l : List Item) → NoCounts l → Headed l
 uncounted-headed [] h = tt
 uncounted-headed (a ∷ l) h = (may-count a (h .0), h .1)
 
-counted-headed : (ls : List (List ℕ)) → Headed (counted ls)
-unfolding counted
-counted-headed [] = (tt, tt)
-counted-headed (l ∷ ls) = by (countOf l) refl
+count-headed : (ls : List (List ℕ)) → Headed (fromCount ls)
+unfolding fromCount
+count-headed [] = (tt, tt)
+count-headed (l ∷ ls) = by (countOf l) refl
   where
-    by : (o : Option ℕ) → countOf l ≡ o → Headed (countItems o (named 3 ls))
+    by : (o : Option ℕ) → countOf l ≡ o → Headed (countItems o (fromNames 3 ls))
     by none e = (tt, tt)
     by (some c) e = let w = count-only l c e in ((w .1, w .2), named-uncounted 3 ls)
 
 all-headed : (ls : List (List ℕ)) → Headed (all ls)
 unfolding all
-all-headed [] = uncounted-headed (named 1 []) (named-uncounted 1 [])
+all-headed [] = uncounted-headed (fromNames 1 []) (named-uncounted 1 [])
 all-headed (l ∷ ls) = by (same l statesLine)
   where
-    by : (t : Bool) → Headed (cond t (counted ls) (named 1 (l ∷ ls)))
-    by true = counted-headed ls
-    by false = uncounted-headed (named 1 (l ∷ ls)) (named-uncounted 1 (l ∷ ls))
+    by : (t : Bool) → Headed (cond t (fromCount ls) (fromNames 1 (l ∷ ls)))
+    by true = count-headed ls
+    by false = uncounted-headed (fromNames 1 (l ∷ ls)) (named-uncounted 1 (l ∷ ls))
 
 -- Of a record's items only the first may be a count.
 pub items-headed : (s : List ℕ) → Headed (items s)
@@ -144,8 +144,8 @@ further-in f n (l ∷ ls) = by (leb n maxLines)
     by true = line (lineOf f l) (further f (n + 1) ls)
     by false = refl
 
-named-in : (n : ℕ) (ls : List (List ℕ)) → countIn (named n ls) ≡ Nothing
-unfolding named
+named-in : (n : ℕ) (ls : List (List ℕ)) → countIn (fromNames n ls) ≡ Nothing
+unfolding fromNames
 named-in n [] = refl
 named-in n (l ∷ ls) = by (same l (names Plain)) (same l (names Keyed))
   where
@@ -159,25 +159,25 @@ count-in none m = refl
 count-in (some c) m = refl
 
 -- What is said by the lines behind `states`: by the next one, which may be missing.
-counted-in : (u : List ℕ) → countIn (counted (lines u)) ≡ countFed (countOf (before u)) .item
-unfolding counted lines before countOf value
+counted-in : (u : List ℕ) → countIn (fromCount (lines u)) ≡ countFed (countOf (before u)) .item
+unfolding fromCount lines before countOf value
 counted-in [] = refl
 counted-in (b ∷ u) = by (broken (b ∷ u))
   where
-    first : (ls : List (List ℕ)) → lines (b ∷ u) ≡ before (b ∷ u) ∷ ls → countIn (counted (lines (b ∷ u))) ≡ countFed (countOf (before (b ∷ u))) .item
-    first ls e = rw e (count-in (countOf (before (b ∷ u))) (named 3 ls))
+    first : (ls : List (List ℕ)) → lines (b ∷ u) ≡ before (b ∷ u) ∷ ls → countIn (fromCount (lines (b ∷ u))) ≡ countFed (countOf (before (b ∷ u))) .item
+    first ls e = rw e (count-in (countOf (before (b ∷ u))) (fromNames 3 ls))
 
-    by : Unbroken (before (b ∷ u)) × Broken (b ∷ u) → countIn (counted (lines (b ∷ u))) ≡ countFed (countOf (before (b ∷ u))) .item
+    by : Unbroken (before (b ∷ u)) × Broken (b ∷ u) → countIn (fromCount (lines (b ∷ u))) ≡ countFed (countOf (before (b ∷ u))) .item
     by (k, inl e) = first [] (lines-last b u (rw e at k) ∙ ap (λ (l : List ℕ). l ∷ []) (sym e))
     by (k, inr (v, e)) = first (lines v) (ap lines e ∙ lines-break v k)
 
 -- A 17 stands alone.
-bad-counted : (ls : List (List ℕ)) → countIn (counted ls) ≡ BadCount → counted ls ≡ BadCount ∷ []
-unfolding counted
+bad-counted : (ls : List (List ℕ)) → countIn (fromCount ls) ≡ BadCount → fromCount ls ≡ BadCount ∷ []
+unfolding fromCount
 bad-counted [] e = refl
 bad-counted (l ∷ ls) e = by (countOf l) e
   where
-    by : (o : Option ℕ) → countIn (countItems o (named 3 ls)) ≡ BadCount → countItems o (named 3 ls) ≡ BadCount ∷ []
+    by : (o : Option ℕ) → countIn (countItems o (fromNames 3 ls)) ≡ BadCount → countItems o (fromNames 3 ls) ≡ BadCount ∷ []
     by none z = refl
     by (some c) z = absurd (let w : _≡_ {A = ℕ} 0 1 = cc in omega arith)
 
@@ -186,7 +186,7 @@ unfolding all
 bad-all [] e = absurd (let z = named-in 1 [] in let w : _≡_ {A = ℕ} 0 1 = cc in omega arith)
 bad-all (l ∷ ls) e = by (same l statesLine) e
   where
-    by : (t : Bool) → countIn (cond t (counted ls) (named 1 (l ∷ ls))) ≡ BadCount → cond t (counted ls) (named 1 (l ∷ ls)) ≡ BadCount ∷ []
+    by : (t : Bool) → countIn (cond t (fromCount ls) (fromNames 1 (l ∷ ls))) ≡ BadCount → cond t (fromCount ls) (fromNames 1 (l ∷ ls)) ≡ BadCount ∷ []
     by true z = bad-counted ls z
     by false z = absurd (let y = named-in 1 (l ∷ ls) in let w : _≡_ {A = ℕ} 0 1 = cc in omega arith)
 
@@ -225,7 +225,7 @@ module _ (s : List ℕ) where
 
   -- It is `states`, and the bytes end with it.
   pub missing-count : isStatesIn (filledFrom emptyLine s 0 .line) ≡ true → {next : ℕ} → next ≡ filledFrom emptyLine s 0 .next → length s ≤ next → BadCount ≡ countIn (items s)
-  unfolding items all counted same before
+  unfolding items all fromCount same before
   missing-count e n h = sym (by s refl (sym first-states ∙ e))
     where
       by : (t : List ℕ) → s ≡ t → same (before t) statesLine ≡ true → countIn (all (lines t)) ≡ BadCount
@@ -251,5 +251,5 @@ module _ (s : List ℕ) where
           ap (λ (o : Option ℕ). countFed o .item) (count-held (withBytes emptyLine u) u (held u)) ∙ ap (λ (x : List ℕ). countFed (countOf (before x)) .item) behind ∙ sym (counted-in v) ∙
           sym (ap (λ (x : List (List ℕ)). countIn (all x)) (ap lines q ∙ lines-break v k) ∙ states)
         where
-          states : countIn (all (before s ∷ lines v)) ≡ countIn (counted (lines v))
+          states : countIn (all (before s ∷ lines v)) ≡ countIn (fromCount (lines v))
           states = rw (sym first-states ∙ e)

@@ -27,10 +27,10 @@ use Rattle.record.specs.declared.splitter.Fed.{Fed}
 use Rattle.record.specs.Text.{statesLine, names}
 use Rattle.record.specs.Grammar.{value, lineOf, countOf}
 use Rattle.record.specs.Lines.{lines, before}
-use Rattle.record.specs.Items.{same, lineItem, maxLines, further, named, countItems, counted, all, items, countIn, itemLine}
+use Rattle.record.specs.Items.{same, lineItem, maxLines, further, fromNames, countItems, fromCount, all, items, countIn, itemLine}
 use Rattle.record.specs.Buffer.{emptyLine, withByte, withBytes, filledFrom, lineIn, isNamesIn, isStatesIn, lineCount}
 use Rattle.record.specs.Parsing.{parsed, parsedCount}
-use Rattle.record.specs.Splitting.{at, fed, advanced, started, named as namesFed, afterNames, countFed, afterFirst, afterFurther, inPhase, afterLine, afterByte, afterPart, inHead, awaited, pending, lastNewlines, told, tells, run, afterBytes, itemOf}
+use Rattle.record.specs.Splitting.{at, fed, advanced, started, namesFed, afterNames, countFed, afterFirst, afterFurther, inPhase, afterLine, afterByte, afterPart, isHead, awaited, pending, lastNewlines, told, tells, run, afterBytes, itemOf}
 use Rattle.record.proofs.Sameness.{other-length}
 use Rattle.record.proofs.Reading.{count-long}
 
@@ -288,7 +288,7 @@ module _ (f : Form) where
           run-byte c s b n false (Further f) e ∙ ih n (l ++ (c ∷ [])) (withByte b c) (holds-more b l c k) (unbroken-more e u) ∙ ap (λ (x : List ℕ). further f n (lines x)) (append-assoc l (c ∷ []) s)
 
 -- A phase of the head, whose line is judged with those behind it by J: where it is right for a line that has ended, it is right for all bytes. A missing line is judged as an empty one.
-module _ (n : ℕ) (p : Phase) (J : List (List ℕ) → List Item) (waits : inHead p ≡ true)
+module _ (n : ℕ) (p : Phase) (J : List (List ℕ) → List Item) (waits : isHead p ≡ true)
     (ends : (l : List ℕ) (b : Line) → Holds b l → (s : List ℕ) → onward (afterLine (at b n false p)) s ≡ J (l ∷ lines s)) (lacks : J [] ≡ J ([] ∷ [])) where
   head-pending : (b : Line) → pending (at b n false p) ≡ true
   unfolding pending awaited
@@ -310,8 +310,8 @@ module _ (n : ℕ) (p : Phase) (J : List (List ℕ) → List Item) (waits : inHe
           run-byte c s b n false p e ∙ ih (l ++ (c ∷ [])) (withByte b c) (holds-more b l c k) (unbroken-more e u) ∙ ap (λ (x : List ℕ). J (lines x)) (append-assoc l (c ∷ []) s)
 
 -- the names line has ended
-names-line : (n : ℕ) (l : List ℕ) (b : Line) → Holds b l → (s : List ℕ) → onward (afterNames n b) s ≡ named n (l ∷ lines s)
-unfolding onward afterNames named
+names-line : (n : ℕ) (l : List ℕ) (b : Line) → Holds b l → (s : List ℕ) → onward (afterNames n b) s ≡ fromNames n (l ∷ lines s)
+unfolding onward afterNames fromNames
 names-line n l b k s = rw (names-held Plain b l k, names-held Keyed b l k) (by (same l (names Plain)) (same l (names Keyed)))
   where
     by : (t u : Bool) → onward (cond t (namesFed n Plain) (cond u (namesFed n Keyed) (fed (at emptyLine (n + 1) true Names) (BadNames n)))) s ≡ cond t (further Plain (n + 1) (lines s)) (cond u (further Keyed (n + 1) (lines s)) (BadNames n ∷ []))
@@ -319,34 +319,34 @@ names-line n l b k s = rw (names-held Plain b l k, names-held Keyed b l k) (by (
     by false true = further-all Keyed s (n + 1) [] emptyLine holds-empty none′
     by false false = rw (run-stopped s emptyLine (n + 1) Names) refl
 
-names-all : (s l : List ℕ) (b : Line) → Holds b l → Unbroken l → run (at b 3 false Names) s ≡ named 3 (lines (l ++ s))
-unfolding afterLine inPhase named same
-names-all = head-all 3 Names (named 3) refl (names-line 3) refl
+names-all : (s l : List ℕ) (b : Line) → Holds b l → Unbroken l → run (at b 3 false Names) s ≡ fromNames 3 (lines (l ++ s))
+unfolding afterLine inPhase fromNames same
+names-all = head-all 3 Names (fromNames 3) refl (names-line 3) refl
 
 -- the count has ended
-count-line : (l : List ℕ) (b : Line) → Holds b l → (s : List ℕ) → onward (afterLine (at b 2 false Count)) s ≡ counted (l ∷ lines s)
-unfolding onward afterLine inPhase counted
+count-line : (l : List ℕ) (b : Line) → Holds b l → (s : List ℕ) → onward (afterLine (at b 2 false Count)) s ≡ fromCount (l ∷ lines s)
+unfolding onward afterLine inPhase fromCount
 count-line l b k s = rw (count-held b l k) (by (countOf l))
   where
-    by : (o : Option ℕ) → onward (countFed o) s ≡ countItems o (named 3 (lines s))
+    by : (o : Option ℕ) → onward (countFed o) s ≡ countItems o (fromNames 3 (lines s))
     by none = rw (run-stopped s emptyLine 3 Names) refl
     by (some c) = ap (λ (x : List Item). States c ∷ x) (names-all s [] emptyLine holds-empty none′)
 
-count-all : (s l : List ℕ) (b : Line) → Holds b l → Unbroken l → run (at b 2 false Count) s ≡ counted (lines (l ++ s))
-unfolding counted countOf value
-count-all = head-all 2 Count counted refl count-line refl
+count-all : (s l : List ℕ) (b : Line) → Holds b l → Unbroken l → run (at b 2 false Count) s ≡ fromCount (lines (l ++ s))
+unfolding fromCount countOf value
+count-all = head-all 2 Count fromCount refl count-line refl
 
 -- the first line has ended
 first-line : (l : List ℕ) (b : Line) → Holds b l → (s : List ℕ) → onward (afterLine (at b 1 false First)) s ≡ all (l ∷ lines s)
 unfolding onward afterLine inPhase afterFirst all
 first-line l b k s = rw (states-held b l k) (by (same l statesLine))
   where
-    by : (t : Bool) → onward (cond t (fed (at emptyLine 2 false Count) Nothing) (afterNames 1 b)) s ≡ cond t (counted (lines s)) (named 1 (l ∷ lines s))
+    by : (t : Bool) → onward (cond t (fed (at emptyLine 2 false Count) Nothing) (afterNames 1 b)) s ≡ cond t (fromCount (lines s)) (fromNames 1 (l ∷ lines s))
     by true = count-all s [] emptyLine holds-empty none′
     by false = names-line 1 l b k s
 
 first-all : (s l : List ℕ) (b : Line) → Holds b l → Unbroken l → run (at b 1 false First) s ≡ all (lines (l ++ s))
-unfolding all named same
+unfolding all fromNames same
 first-all = head-all 1 First all refl first-line refl
 
 -- A record of any bytes and any length, fed byte by byte from the start to its end: the answers that say something are its items.

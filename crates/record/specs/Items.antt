@@ -36,23 +36,23 @@ further f n [] = []
 further f n (l ∷ ls) = cond (leb n maxLines) (lineItem n (lineOf f l) ∷ further f (n + 1) ls) (TooMany ∷ [])
 
 -- The lines from number n on, of which the first is the names line. "A record may begin with `kind from to key`", or has "the old names line". "10: the names line is not exact. Reading stops." "Empty input lacks its names line."
-unfoldable pub named : ℕ → List (List ℕ) → List Item
-named n [] = BadNames n ∷ []
-named n (l ∷ ls) = cond (same l (names Plain)) (further Plain (n + 1) ls) (cond (same l (names Keyed)) (further Keyed (n + 1) ls) (BadNames n ∷ []))
+unfoldable pub fromNames : ℕ → List (List ℕ) → List Item
+fromNames n [] = BadNames n ∷ []
+fromNames n (l ∷ ls) = cond (same l (names Plain)) (further Plain (n + 1) ls) (cond (same l (names Keyed)) (further Keyed (n + 1) ls) (BadNames n ∷ []))
 
 -- The lines behind `states`: "a line with the count, and then the names line". "a second line that is missing or is not a number from 1 to 2,048 gets 17 as line 2, before the names line, and reading stops."
 abbrev pub countItems : Option ℕ → List Item → List Item
 countItems none ls = BadCount ∷ []
 countItems (some c) ls = States c ∷ ls
 
-unfoldable pub counted : List (List ℕ) → List Item
-counted [] = BadCount ∷ []
-counted (l ∷ ls) = countItems (countOf l) (named 3 ls)
+unfoldable pub fromCount : List (List ℕ) → List Item
+fromCount [] = BadCount ∷ []
+fromCount (l ∷ ls) = countItems (countOf l) (fromNames 3 ls)
 
 -- "A record may now begin with a line `states`".
 unfoldable pub all : List (List ℕ) → List Item
-all [] = named 1 []
-all (l ∷ ls) = cond (same l statesLine) (counted ls) (named 1 (l ∷ ls))
+all [] = fromNames 1 []
+all (l ∷ ls) = cond (same l statesLine) (fromCount ls) (fromNames 1 (l ∷ ls))
 
 -- What a record's lines are, in order.
 unfoldable pub items : List ℕ → List Item

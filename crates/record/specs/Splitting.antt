@@ -34,11 +34,11 @@ abbrev pub started : Splitter
 started = at emptyLine 1 false First
 
 -- The names line, line n, has ended: it gives the form.
-abbrev pub named : ℕ → Form → Fed
-named n f = fed (at emptyLine (n + 1) false (Further f)) Nothing
+abbrev pub namesFed : ℕ → Form → Fed
+namesFed n f = fed (at emptyLine (n + 1) false (Further f)) Nothing
 
 unfoldable pub afterNames : ℕ → Line → Fed
-afterNames n l = cond (isNamesIn Plain l) (named n Plain) (cond (isNamesIn Keyed l) (named n Keyed) (fed (at emptyLine (n + 1) true Names) (BadNames n)))
+afterNames n l = cond (isNamesIn Plain l) (namesFed n Plain) (cond (isNamesIn Keyed l) (namesFed n Keyed) (fed (at emptyLine (n + 1) true Names) (BadNames n)))
 
 -- Line 2 has ended, behind `states`.
 abbrev pub countFed : Option ℕ → Fed
@@ -74,14 +74,14 @@ afterPart s l i =
     cond (ltb (f .next) (length l)) (advanced (afterLine t) (f .next + 1)) (advanced (fed t Nothing) (f .next))
 
 -- Whether the head of the record is not over: a line of it is still to end.
-abbrev pub inHead : Phase → Bool
-inHead First = true
-inHead Count = true
-inHead Names = true
-inHead (Further f) = false
+abbrev pub isHead : Phase → Bool
+isHead First = true
+isHead Count = true
+isHead Names = true
+isHead (Further f) = false
 
 unfoldable pub awaited : Splitter → Bool
-awaited s = cond (s .stopped) false (inHead (s .phase))
+awaited s = cond (s .stopped) false (isHead (s .phase))
 
 -- Whether a line is left that the end of the record ends: "A missing last newline makes no difference. Empty input lacks its names line."
 unfoldable pub pending : Splitter → Bool

@@ -1,6 +1,6 @@
 // The splitter: it is fed a record in parts of any length, and answers what each line is as the line ends.
 ghost use mathlib.Core.Path.{_≡_};
-ghost use Rattle.record.specs.Splitting.{started, named, afterNames, countFed, afterFirst, afterFurther, afterLine, afterPart, awaited, pending, lastNewlines, itemOf};
+ghost use Rattle.record.specs.Splitting.{started, namesFed, afterNames, countFed, afterFirst, afterFurther, afterLine, afterPart, awaited, pending, lastNewlines, itemOf};
 ghost use Rattle.record.specs.Buffer.{lineCount};
 ghost use Rattle.record.specs.Items.{items, countIn};
 ghost use Prim.Native.Nat.{_≤_};
@@ -239,10 +239,10 @@ fn names_line(line: Line, number: usize) -> Fed
     ensures { λ r. ⌜ r ≡ afterNames number line ⌝ }
 {
     if line.is_names(Form::Plain) {
-        return named(number, Form::Plain);
+        return names_fed(number, Form::Plain);
     }
     if line.is_names(Form::Keyed) {
-        return named(number, Form::Keyed);
+        return names_fed(number, Form::Keyed);
     }
     Fed {
         splitter: Splitter {
@@ -256,9 +256,9 @@ fn names_line(line: Line, number: usize) -> Fed
 }
 
 // The names line has ended.
-fn named(number: usize, form: Form) -> Fed
+fn names_fed(number: usize, form: Form) -> Fed
     requires { ⌜ number ≤ 3 ⌝ }
-    ensures { λ r. ⌜ r ≡ named number form ⌝ }
+    ensures { λ r. ⌜ r ≡ namesFed number form ⌝ }
 {
     Fed {
         splitter: Splitter {

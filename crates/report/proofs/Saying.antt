@@ -31,7 +31,7 @@ use Rattle.reader.specs.declared.driver.LineAnswer.the-variants.{Nothing, Accep
 use Rattle.reader.specs.declared.driver.Until.the-variants.{News}
 use Rattle.reader.specs.Opening.{readerStates}
 use Rattle.reader.specs.Turning.{Told, lineOutcome, lineAnswer, numberAnswer, Came, sent, nothing, malformed, badNames, tooMany, states, badCount}
-use Rattle.reader.specs.Replaying.{graphAfter, startOf, outcomeOf, afterItem, afterItems}
+use Rattle.reader.specs.Replaying.{withCount, startOf, outcomeOf, afterItem, afterItems}
 use Rattle.reader.specs.Standing.{Standing}
 use Rattle.reader.specs.Advancing.{Passed, itemsOf, Applies, none as no-line, next, waited, Quiet, Stops, found, ended}
 use Rattle.reader.proofs.Lines.{line-right, head-right}
@@ -80,7 +80,7 @@ line-says s n tooMany = refl
 line-says s n states = absurd n
 line-says s n badCount = refl
 
-head-says : {start : Graph} {a : Item} {g g′ : Graph} {t t′ : Tables} {o : LineAnswer} → Standing start [] g t → Came a g t g′ t′ o → answerText o (t′ .news) (t′ .status) ≡ lineText (graphAfter a start) [] a
+head-says : {start : Graph} {a : Item} {g g′ : Graph} {t t′ : Tables} {o : LineAnswer} → Standing start [] g t → Came a g t g′ t′ o → answerText o (t′ .news) (t′ .status) ≡ lineText (withCount a start) [] a
 unfolding lineText newsText
 head-says s nothing = refl
 head-says s (sent p e q) = line-says s tt (sent p e q)

@@ -23,7 +23,7 @@ use Rattle.record.proofs.Placing.{placed-take}
 use Rattle.reader.specs.declared.task.Task.{Task}
 use Rattle.reader.specs.declared.task.Task.the-variants.{Read, Write, End}
 use Rattle.reader.specs.Opening.{readerStates, openRefusal}
-use Rattle.reader.specs.Replaying.{graphAfter, startOf, afterItems}
+use Rattle.reader.specs.Replaying.{withCount, startOf, afterItems}
 use Rattle.reader.specs.Standing.{Standing}
 use Rattle.reader.specs.Reading.{recordLimit, recordGraph}
 use Rattle.reader.specs.Advancing.{Passed, itemsOf, Applies, Follows}
@@ -52,7 +52,7 @@ module _ {g g′ : Graph} {t t′ : Tables} {l : List Passed} (a : Applies g t l
   unfolding linesText
   says-more [] h s = sym (begins-say (omega arith) h s a)
   says-more (x ∷ lines) h s =
-      let n = graphAfter x recordGraph in
+      let n = withCount x recordGraph in
       lines-then n [] (x ∷ lines) (itemsOf l) ∙ ap (λ (y : List ℕ). linesText n [] (x ∷ lines) ++ y) (sym (lines-say (headed-back x lines (itemsOf l) h) s a))
 
 says : {got left left′ : List ℕ} {s s′ : Splitter} {g g′ : Graph} {t t′ : Tables} (u : Underway recordGraph got s left g t) (f : Follows s left g t s′ left′ g′ t′) → saidBy (u .lines ++ itemsOf (f .passed)) ≡ saidBy (u .lines) ++ passedText (f .passed)

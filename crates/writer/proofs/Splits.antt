@@ -17,7 +17,7 @@ use Rattle.record.specs.declared.splitter.Item.the-variants.{Update as Read, St
 use Rattle.record.specs.declared.line.Form.the-variants.{Keyed}
 use Rattle.record.specs.Text.{decimal, statesLine, head, field, text, names, Within}
 use Rattle.record.specs.Lines.{lines}
-use Rattle.record.specs.Items.{same, maxLines, further, named, counted, all, items}
+use Rattle.record.specs.Items.{same, maxLines, further, fromNames, fromCount, all, items}
 use Rattle.record.proofs.Decimals.{decimal-digit, decimal-more}
 use Rattle.record.proofs.Reading.{Short, text-short, line-back, count-back}
 use Rattle.record.proofs.Splitting.{Unbroken, none′, more, lines-break}
@@ -115,7 +115,7 @@ further-numbered (x ∷ l) k w h =
 
 -- The record's items: the count, and the written updates from line 4 on. The longest record has 12,291 lines of 65,535.
 pub items-record : (n m : ℕ) (marks from to key : List ℕ) → 0 < n → n ≤ maxStates → m ≤ maxSteps → ((x : Update) → List·Memᴰ x (writtenUpdates n m marks from to key) → Writable x) → items (recordOf n m marks from to key) ≡ States n ∷ numbered 4 (writtenUpdates n m marks from to key)
-unfolding items all counted named recordOf same
+unfolding items all fromCount fromNames recordOf same
 items-record n m marks from to key one few low w =
     rw (head-lines n (bytesOf (writtenUpdates n m marks from to key)), lines-bytes (writtenUpdates n m marks from to key), count-back n (omega arith) few)
     (ap (λ (l : List Item). States n ∷ l) (further-numbered (writtenUpdates n m marks from to key) 4 w (omega (arith, updates-count n m marks from to key))))

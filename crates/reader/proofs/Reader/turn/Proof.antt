@@ -19,8 +19,8 @@ update-requires c κs = search needs
 line-answer-requires : tie.Need-line-answer-requires
 line-answer-requires c κs = search needs
 
-counted-requires : tie.Need-counted-requires
-counted-requires c κs = search needs
+with-count-requires : tie.Need-with-count-requires
+with-count-requires c κs = search needs
 
 item-answer-requires : tie.Need-item-answer-requires
 item-answer-requires c κs = search needs
@@ -77,7 +77,7 @@ returns-2 c =
     let f = c .before .before .before .before .before .feed-line .ensures in (
       ap (λ (x : Advanced). x .next) f,
       ap (λ (x : Advanced). x .splitter) f,
-      came-as (ap (λ (x : Advanced). x .item) f) (rw (c .item-answer .ensures, c .before .counted .ensures) (came-other (c .before .before .before .before .before .feed-line .result .item) (c .before .before .match .keys2))),
+      came-as (ap (λ (x : Advanced). x .item) f) (rw (c .item-answer .ensures, c .before .with-count .ensures) (came-other (c .before .before .before .before .before .feed-line .result .item) (c .before .before .match .keys2))),
     )
 
 pub turn-spec : {M : Type 1} → statement M
@@ -88,7 +88,7 @@ turn-spec =
     enum-known-item
     update-requires
     line-answer-requires
-    counted-requires
+    with-count-requires
     item-answer-requires
     same-length
     same-length-2
