@@ -9,7 +9,7 @@ use Rattle.gid.specs.declared.Update.{Update}
 use Rattle.record.specs.declared.grammar.Parsed.{Parsed}
 use Rattle.record.specs.declared.grammar.Parsed.the-variants.{Update as Read, Malformed}
 use Rattle.record.specs.declared.grammar.Count.{Count}
-use Rattle.record.specs.declared.grammar.Count.the-variants.{Of as States, Malformed as NoCount}
+use Rattle.record.specs.declared.grammar.Count.the-variants.{Of as IsCount, Malformed as NotCount}
 use Rattle.record.specs.declared.grammar.Digit.{Digit}
 use Rattle.record.specs.declared.grammar.Digit.the-variants.{Of, Other}
 use Rattle.record.specs.declared.grammar.Value.{Value}
@@ -23,8 +23,8 @@ parsed none = Malformed
 parsed (some x) = Read x
 
 abbrev pub parsedCount : Option ℕ → Count
-parsedCount none = NoCount
-parsedCount (some c) = States c
+parsedCount none = NotCount
+parsedCount (some c) = IsCount c
 
 abbrev pub digitOf : ℕ → Digit
 digitOf b = cond (isDigit b) (Of (b - 48)) Other

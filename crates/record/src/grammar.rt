@@ -1,4 +1,4 @@
-// The grammar of a line: "`E 3 4` a step, `T 3 -` a terminal mark, `C 3 -` a close", and with keys `E 3 4 7`, `T 3 - -`, `C 3 - -`. Every other byte is malformed. And of a count line.
+// The grammar of a line: "`E 3 4` a step, `T 3 -` a terminal mark, `C 3 -` a close", and with keys `E 3 4 7`, `T 3 - -`, `C 3 - -`. Every other byte is malformed. A count is a value by itself.
 ghost use mathlib.Core.Path.{_≡_};
 ghost use Prim.Native.Nat.{ℕ, _≤_, _<_};
 ghost use lib.ListN.{length, drop};
