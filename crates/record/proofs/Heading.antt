@@ -8,23 +8,23 @@ use mathlib.Core.Option.{Option, some, none}
 use Prim.Native.Nat.{ℕ, suc, _+_, _≤_, _<_}
 use native.Mathlib.Omega.{arith}
 use lib.Dec.{leb}
-use lib.ListN.{length, drop, length-append, drop-of-length-le}
-use lib.Seq.{drop-at}
+use lib.ListN.{length, getD, take, drop, length-append, drop-of-length-le}
+use lib.Seq.{take-at, take-length, drop-at}
+use borrow.Author.Tests.{eq-eqb, ne-eqb}
 use Rattle.gid.specs.Refusals.{maxStates}
 use Rattle.gid.specs.declared.Update.{Update}
 use Rattle.record.specs.declared.line.Form.{Form}
 use Rattle.record.specs.declared.line.Form.the-variants.{Plain, Keyed}
-use Rattle.record.specs.declared.line.Line.{Line}
 use Rattle.record.specs.declared.splitter.Item.{Item}
 use Rattle.record.specs.declared.splitter.Item.the-variants.{Nothing, Update as Read, Malformed, BadNames, TooMany, States, BadCount}
 use Rattle.record.specs.Text.{statesLine, names}
 use Rattle.record.specs.Grammar.{value, lineOf, countOf}
 use Rattle.record.specs.Lines.{lines, before}
 use Rattle.record.specs.Items.{same, lineItem, maxLines, further, fromNames, countItems, fromCount, all, items, countIn}
-use Rattle.record.specs.Buffer.{emptyLine, withByte, withBytes, filledFrom, isStatesIn, lineCount}
 use Rattle.record.specs.Splitting.{countFed}
 use Rattle.record.proofs.Reading.{count-only}
-use Rattle.record.proofs.Splitting.{Unbroken, Holds, holds-empty, holds-more, states-held, count-held, lines-break, lines-last, Broken, broken}
+use Rattle.record.proofs.Splitting.{Unbroken, lines-break, lines-last, Broken, broken}
+use Rattle.record.proofs.Indexed.{here}
 
 -- The lines behind a count hold none.
 abbrev pub NoCount : Item → Type 0
@@ -194,23 +194,41 @@ pub bad-alone : (s : List ℕ) → countIn (items s) ≡ BadCount → items s �
 unfolding items
 bad-alone s e = bad-all (lines s) e
 
--- The line buffer that was filled with some bytes holds them.
-holds-bytes : (b : Line) (l u : List ℕ) → Holds b l → Holds (withBytes b u) (l ++ u)
-unfolding withBytes
-holds-bytes b l [] h = rw append-nil h
-holds-bytes b l (c ∷ u) h = subst (Holds (withBytes (withByte b c) u)) (append-assoc l (c ∷ []) u) (holds-bytes (withByte b c) (l ++ (c ∷ [])) u (holds-more b l c h))
+-- The bytes before the first newline are the front of all.
+pub before-front : (s : List ℕ) (n : ℕ) → n ≡ length (before s) → take n s ≡ before s
+before-front s n e = rw e (by (broken s))
+  where
+    by : Unbroken (before s) × Broken s → take (length (before s)) s ≡ before s
+    by (k, inl q) = ap (λ (x : List ℕ). take (length x) s) q ∙ take-length s ∙ sym q
+    by (k, inr (v, q)) = ap (take (length (before s))) q ∙ take-at (before s) (10 ∷ v) (length (before s)) refl
 
-held : (u : List ℕ) → Holds (withBytes emptyLine u) u
-held u = holds-bytes emptyLine [] u holds-empty
+-- and where there is one at an index, or none is left, they end there
+pub before-short : (s : List ℕ) → length (before s) ≤ length s
+before-short s = by (broken s)
+  where
+    by : Unbroken (before s) × Broken s → length (before s) ≤ length s
+    by (k, inl q) = omega (arith, ap length q)
+    by (k, inr (v, q)) = omega (arith, ap length q, length-append (before s) (10 ∷ v))
+
+module _ (s : List ℕ) (i : ℕ) where
+  pub before-over : length s ≤ i → i ≡ i + length (before (drop i s))
+  unfolding before
+  before-over h = rw (drop-of-length-le s h) (omega arith)
+
+  module _ (h : i < length s) where
+    pub before-break : getD s i 0 ≡ 10 → i ≡ i + length (before (drop i s))
+    unfolding before
+    before-break e = rw (here s i h, eq-eqb (getD s i 0) 10 e) (omega arith)
+
+    pub before-more : (getD s i 0 ≡ 10 → ⊥) → i + length (before (drop i s)) ≡ i + 1 + length (before (drop (i + 1) s))
+    unfolding before
+    before-more e = rw (here s i h, ne-eqb (getD s i 0) 10 e) (omega arith)
 
 module _ (s : List ℕ) where
-  first-states : isStatesIn (filledFrom emptyLine s 0 .line) ≡ same (before s) statesLine
-  first-states = states-held (withBytes emptyLine (before s)) (before s) (held (before s))
-
   -- The first line is another.
-  pub no-states : isStatesIn (filledFrom emptyLine s 0 .line) ≡ false → Nothing ≡ countIn (items s)
+  pub no-states : same (before s) statesLine ≡ false → Nothing ≡ countIn (items s)
   unfolding items all same lines
-  no-states e = sym (by s refl (sym first-states ∙ e))
+  no-states e = sym (by s refl e)
     where
       other : (l : List ℕ) (ls : List (List ℕ)) → same l statesLine ≡ false → countIn (all (l ∷ ls)) ≡ Nothing
       other l ls z = rw z (named-in 1 (l ∷ ls))
@@ -224,9 +242,9 @@ module _ (s : List ℕ) where
           at (k, inr (v, e)) = rw (ap lines e ∙ lines-break v k) (other (before (b ∷ t)) (lines v) z)
 
   -- It is `states`, and the bytes end with it.
-  pub missing-count : isStatesIn (filledFrom emptyLine s 0 .line) ≡ true → {next : ℕ} → next ≡ filledFrom emptyLine s 0 .next → length s ≤ next → BadCount ≡ countIn (items s)
+  pub missing-count : same (before s) statesLine ≡ true → length s ≤ length (before s) → BadCount ≡ countIn (items s)
   unfolding items all fromCount same before
-  missing-count e n h = sym (by s refl (sym first-states ∙ e))
+  missing-count e h = sym (by s refl e)
     where
       by : (t : List ℕ) → s ≡ t → same (before t) statesLine ≡ true → countIn (all (lines t)) ≡ BadCount
       by [] q z = absurd (false≢true z)
@@ -234,22 +252,19 @@ module _ (s : List ℕ) where
         where
           at : Unbroken (before (b ∷ t)) × Broken (b ∷ t) → countIn (all (lines (b ∷ t))) ≡ BadCount
           at (k, inl e) = rw (lines-last b t (rw e at k), rw e at z) refl
-          at (k, inr (v, e)) = absurd (omega (arith, n, h, ap length e, length-append (before (b ∷ t)) (10 ∷ v), ap (λ (x : List ℕ). length (before x)) q, ap length q))
+          at (k, inr (v, e)) = absurd (omega (arith, h, ap length e, length-append (before (b ∷ t)) (10 ∷ v), ap (λ (x : List ℕ). length (before x)) q, ap length q))
 
   -- It is `states`, and the next one decides.
-  pub has-count : isStatesIn (filledFrom emptyLine s 0 .line) ≡ true → {next : ℕ} → next ≡ filledFrom emptyLine s 0 .next → next < length s → countFed (lineCount (filledFrom emptyLine s (next + 1) .line)) .item ≡ countIn (items s)
+  pub has-count : same (before s) statesLine ≡ true → length (before s) < length s → countFed (countOf (before (drop (length (before s) + 1) s))) .item ≡ countIn (items s)
   unfolding items all
-  has-count e {next} n h =
-      let z : next ≡ length (before s) = omega (arith, n) in
-      rw z (by (broken s))
+  has-count e h = by (broken s)
     where
-      by : Unbroken (before s) × Broken s → countFed (lineCount (filledFrom emptyLine s (length (before s) + 1) .line)) .item ≡ countIn (all (lines s))
-      by (k, inl q) = absurd (omega (arith, n, h, ap length q))
+      by : Unbroken (before s) × Broken s → countFed (countOf (before (drop (length (before s) + 1) s))) .item ≡ countIn (all (lines s))
+      by (k, inl q) = absurd (omega (arith, h, ap length q))
       by (k, inr (v, q)) =
           let behind : drop (length (before s) + 1) s ≡ v = ap (drop (length (before s) + 1)) (q ∙ sym (append-assoc (before s) (10 ∷ []) v)) ∙ drop-at (before s ++ (10 ∷ [])) v (length (before s) + 1) (length-append (before s) (10 ∷ [])) in
-          let u = before (drop (length (before s) + 1) s) in
-          ap (λ (o : Option ℕ). countFed o .item) (count-held (withBytes emptyLine u) u (held u)) ∙ ap (λ (x : List ℕ). countFed (countOf (before x)) .item) behind ∙ sym (counted-in v) ∙
+          ap (λ (x : List ℕ). countFed (countOf (before x)) .item) behind ∙ sym (counted-in v) ∙
           sym (ap (λ (x : List (List ℕ)). countIn (all x)) (ap lines q ∙ lines-break v k) ∙ states)
         where
           states : countIn (all (before s ∷ lines v)) ≡ countIn (fromCount (lines v))
-          states = rw (sym first-states ∙ e)
+          states = rw e

@@ -29,7 +29,7 @@ use Rattle.record.specs.Grammar.{value, lineOf, countOf}
 use Rattle.record.specs.Lines.{lines, before}
 use Rattle.record.specs.Items.{same, lineItem, maxLines, further, fromNames, countItems, fromCount, all, items, countIn, itemLine}
 use Rattle.record.specs.Buffer.{emptyLine, withByte, withBytes, filledFrom, lineIn, isNamesIn, isStatesIn, lineCount}
-use Rattle.record.specs.Parsing.{parsed, parsedCount}
+use Rattle.record.specs.Parsing.{parsed, parsedCount, isCount}
 use Rattle.record.specs.Splitting.{at, fed, advanced, started, namesFed, afterNames, countFed, afterFirst, afterFurther, inPhase, afterLine, afterByte, afterPart, isHead, awaited, pending, lastNewlines, told, tells, run, afterBytes, itemOf}
 use Rattle.record.proofs.Sameness.{other-length}
 use Rattle.record.proofs.Reading.{count-long}
@@ -183,6 +183,49 @@ run-byte c s b n q p h = rw (ne-eqb c 10 h)
 run-break : (c : ℕ) (s : List ℕ) (b : Line) (n : ℕ) (q : Bool) (p : Phase) → c ≡ 10 → run (at b n q p) (c ∷ s) ≡ onward (afterLine (at b n q p)) s
 unfolding run afterByte onward
 run-break c s b n q p h = rw (eq-eqb c 10 h)
+
+-- Whether a line of the head comes behind a line: none behind the names line or a further one, one behind `states` and behind a count.
+names-lead : (n : ℕ) (b : Line) → awaited (afterNames n b .splitter) ≡ false
+unfolding awaited afterNames
+names-lead n b = by (isNamesIn Plain b) (isNamesIn Keyed b)
+  where
+    by : (t u : Bool) → awaited (cond t (namesFed n Plain) (cond u (namesFed n Keyed) (fed (at emptyLine (n + 1) true Names) (BadNames n))) .splitter) ≡ false
+    by true u = refl
+    by false true = refl
+    by false false = refl
+
+pub stopped-leads : (s : Splitter) → s .stopped ≡ true → false ≡ awaited (afterLine s .splitter)
+unfolding awaited afterLine
+stopped-leads s e = rw e
+
+module _ (s : Splitter) (goes : s .stopped ≡ false) where
+  pub first-leads : s .phase ≡ First → isStatesIn (s .line) ≡ awaited (afterLine s .splitter)
+  unfolding awaited afterLine inPhase afterFirst
+  first-leads e = rw (goes, e) (by (isStatesIn (s .line)))
+    where
+      by : (t : Bool) → t ≡ awaited (cond t (fed (at emptyLine 2 false Count) Nothing) (afterNames 1 (s .line)) .splitter)
+      by true = refl
+      by false = sym (names-lead 1 (s .line))
+
+  pub count-leads : s .phase ≡ Count → isCount (parsedCount (lineCount (s .line))) ≡ awaited (afterLine s .splitter)
+  unfolding awaited afterLine inPhase
+  count-leads e = rw (goes, e) (by (lineCount (s .line)))
+    where
+      by : (o : Option ℕ) → isCount (parsedCount o) ≡ awaited (countFed o .splitter)
+      by none = refl
+      by (some c) = refl
+
+  pub names-leads : s .phase ≡ Names → false ≡ awaited (afterLine s .splitter)
+  unfolding awaited afterLine inPhase
+  names-leads e = rw (goes, e) (sym (names-lead 3 (s .line)))
+
+  pub further-leads : (f : Form) → s .phase ≡ Further f → false ≡ awaited (afterLine s .splitter)
+  unfolding awaited afterLine inPhase afterFurther
+  further-leads f e = rw (goes, e) (by (leb (s .number) maxLines))
+    where
+      by : (t : Bool) → false ≡ awaited (cond t (fed (at emptyLine (s .number + 1) false (Further f)) (lineItem (s .number) (lineIn f (s .line)))) (fed (at emptyLine (s .number) true (Further f)) TooMany) .splitter)
+      by true = refl
+      by false = refl
 
 -- What a line leaves that has ended: a line of the head is awaited, or one behind it, or reading has stopped.
 data Ended : Fed → Type 0 where

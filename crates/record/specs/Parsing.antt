@@ -1,6 +1,6 @@
 -- What the answers of the grammar's functions stand for.
 -- Assumes nothing.
-use mathlib.Core.Bool.{cond}
+use mathlib.Core.Bool.{Bool, true, false, cond}
 use mathlib.Core.List.{List}
 use mathlib.Core.Option.{Option, some, none}
 use Prim.Native.Nat.{ℕ, _-_}
@@ -25,6 +25,10 @@ parsed (some x) = Read x
 abbrev pub parsedCount : Option ℕ → Count
 parsedCount none = NotCount
 parsedCount (some c) = IsCount c
+
+abbrev pub isCount : Count → Bool
+isCount (IsCount c) = true
+isCount NotCount = false
 
 abbrev pub digitOf : ℕ → Digit
 digitOf b = cond (isDigit b) (Of (b - 48)) Other

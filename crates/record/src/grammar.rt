@@ -72,7 +72,7 @@ impl Line {
 }
 
 // "a number from 1 to 2,048"
-fn count_bytes(s: &[u8]) -> Count
+pub fn count_bytes(s: &[u8]) -> Count
     ensures { λ r. ⌜ r ≡ parsedCount (countOf (now (s .entry))) ⌝ }
 {
     let Value::Number { number, next } = value_at(s, 0) else {

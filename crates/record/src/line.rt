@@ -91,7 +91,7 @@ fn equal_names(s: &[u8], form: Form) -> bool
     }
 }
 
-fn equal(a: &[u8], b: &[u8]) -> bool
+pub fn equal(a: &[u8], b: &[u8]) -> bool
     ensures { λ r. ⌜ r ≡ same (now (a .entry)) (now (b .entry)) ⌝ }
 {
     if a.len() != b.len() {

@@ -2,13 +2,18 @@
 ghost use mathlib.Core.Path.{_≡_};
 ghost use Rattle.record.specs.Splitting.{started, namesFed, afterNames, countFed, afterFirst, afterFurther, afterLine, afterPart, awaited, pending, lastNewlines, itemOf};
 ghost use Rattle.record.specs.Buffer.{lineCount};
+ghost use Rattle.record.specs.Parsing.{isCount};
 ghost use Rattle.record.specs.Items.{items, countIn};
+ghost use Rattle.record.specs.Lines.{before};
+ghost use Rattle.record.specs.Grammar.{countOf};
 ghost use Prim.Native.Nat.{_≤_};
 ghost use lib.ListN.{length};
 use crate::grammar::Count;
 use crate::grammar::Parsed;
+use crate::grammar::count_bytes;
 use crate::line::Form;
 use crate::line::Line;
+use crate::line::equal;
 use gid::Update;
 
 // "10: the names line is not exact."
@@ -158,14 +163,29 @@ impl Splitter {
         ensures { λ r. ⌜ r ≡ length (lastNewlines self) ⌝ }
     {
         if self.pending() {
-            let fed = self.ended();
-            let next = fed.splitter;
-            if next.awaits() {
+            if self.leads_on() {
                 return 2;
             }
             return 1;
         }
         0
+    }
+
+    // Whether a line of the head comes behind this one: behind `states`, and behind a count. It is not asked by ending the line, which is done in one place, for speed.
+    fn leads_on(self) -> bool
+        ensures { λ r. ⌜ r ≡ awaited (afterLine self .splitter) ⌝ }
+    {
+        if self.stopped {
+            return false;
+        }
+        let line = self.line;
+        let phase = self.phase;
+        match phase {
+            Phase::First => line.is_states(),
+            Phase::Count => is_count(line.count()),
+            Phase::Names => false,
+            Phase::Further(_) => false,
+        }
     }
 
     // The line has ended.
@@ -233,6 +253,15 @@ fn count_line(line: Line) -> Fed
     }
 }
 
+fn is_count(count: Count) -> bool
+    ensures { λ r. ⌜ r ≡ isCount count ⌝ }
+{
+    match count {
+        Count::Of(_) => true,
+        Count::Malformed => false,
+    }
+}
+
 // Line 1, or line 3 behind a count.
 fn names_line(line: Line, number: usize) -> Fed
     requires { ⌜ number ≤ 3 ⌝ }
@@ -275,19 +304,39 @@ fn names_fed(number: usize, form: Form) -> Fed
 pub fn states_of(bytes: &[u8]) -> Item
     ensures { λ r. ⌜ r ≡ countIn (items (now (bytes .entry))) ⌝ }
 {
-    let start = Line::empty();
-    let first = start.filled(bytes, 0);
-    let line = first.line;
-    let next = first.next;
-    if line.is_states() {
-        if next < bytes.len() {
-            let second = start.filled(bytes, next + 1);
-            let count = count_line(second.line);
-            return count.item;
+    let end = line_end(bytes);
+    if equal(&bytes[..end], b"states") {
+        if end < bytes.len() {
+            return count_item(&bytes[end + 1..]);
         }
         return Item::BadCount;
     }
     Item::Nothing
+}
+
+// By the line at the front of the bytes behind `states`.
+fn count_item(rest: &[u8]) -> Item
+    ensures { λ r. ⌜ r ≡ countFed (countOf (before (now (rest .entry)))) .item ⌝ }
+{
+    let end = line_end(rest);
+    match count_bytes(&rest[..end]) {
+        Count::Of(states) => Item::States(states),
+        Count::Malformed => Item::BadCount,
+    }
+}
+
+// How many bytes stand before the first newline.
+fn line_end(s: &[u8]) -> usize
+    ensures { λ r. ⌜ r ≡ length (before (now (s .entry))) ⌝ }
+{
+    let mut i = 0;
+    while i < s.len() {
+        if s[i] == b'\n' {
+            return i;
+        }
+        i += 1;
+    }
+    i
 }
 
 fn further_line(line: Line, number: usize, form: Form) -> Fed
