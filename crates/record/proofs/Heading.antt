@@ -202,14 +202,7 @@ before-front s n e = rw e (by (broken s))
     by (k, inl q) = ap (λ (x : List ℕ). take (length x) s) q ∙ take-length s ∙ sym q
     by (k, inr (v, q)) = ap (take (length (before s))) q ∙ take-at (before s) (10 ∷ v) (length (before s)) refl
 
--- and where there is one at an index, or none is left, they end there
-pub before-short : (s : List ℕ) → length (before s) ≤ length s
-before-short s = by (broken s)
-  where
-    by : Unbroken (before s) × Broken s → length (before s) ≤ length s
-    by (k, inl q) = omega (arith, ap length q)
-    by (k, inr (v, q)) = omega (arith, ap length q, length-append (before s) (10 ∷ v))
-
+-- and they end at a newline, or where no byte is left
 module _ (s : List ℕ) (i : ℕ) where
   pub before-over : length s ≤ i → i ≡ i + length (before (drop i s))
   unfolding before

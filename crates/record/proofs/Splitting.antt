@@ -542,7 +542,7 @@ both-lack s e = by (pending s) (awaited (afterLine s .splitter)) refl e
     by true false w h = absurd (omega arith)
     by false r w h = absurd (omega arith)
 
-before-length : (t : List ℕ) → length (before t) ≤ length t
+pub before-length : (t : List ℕ) → length (before t) ≤ length t
 unfolding before
 before-length [] = omega arith
 before-length (c ∷ t) = by (eqb c 10) (before-length t)

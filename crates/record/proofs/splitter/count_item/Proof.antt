@@ -8,8 +8,8 @@ use lib.Seq.{length-take-le}
 use Rattle.record.specs.Lines.{before}
 use Rattle.record.specs.Grammar.{countOf}
 use Rattle.record.specs.Parsing.{parsedCount}
-use Rattle.record.proofs.Splitting.{a-count, no-count}
-use Rattle.record.proofs.Heading.{before-front, before-short}
+use Rattle.record.proofs.Splitting.{a-count, no-count, before-length}
+use Rattle.record.proofs.Heading.{before-front}
 use borrow.Author.Needs.{needs}
 use Rattle.record.proofs.splitter.count_item.Statement.{statement}
 use Rattle.record.proofs.splitter.count_item.Tie as tie
@@ -18,7 +18,7 @@ line-end-requires : tie.Need-line-end-requires
 line-end-requires c κs = search needs
 
 slice-aggregate-count-bytes : tie.Need-slice-aggregate-count-bytes
-slice-aggregate-count-bytes c = let s = c .before .before .before .args .rest .now in sym (length-take-le (c .before .line-end .result) s (omega (arith, c .before .line-end .ensures, before-short s)))
+slice-aggregate-count-bytes c = let s = c .before .before .before .args .rest .now in sym (length-take-le (c .before .line-end .result) s (omega (arith, c .before .line-end .ensures, before-length s)))
 
 count-bytes-requires : tie.Need-count-bytes-requires
 count-bytes-requires c κs = search needs

@@ -11,7 +11,8 @@ use Rattle.record.specs.Lines.{before}
 use Rattle.record.specs.Grammar.{countOf}
 use Rattle.record.specs.Items.{same}
 use Rattle.record.specs.Splitting.{countFed}
-use Rattle.record.proofs.Heading.{before-front, before-short, no-states, missing-count, has-count}
+use Rattle.record.proofs.Splitting.{before-length}
+use Rattle.record.proofs.Heading.{before-front, no-states, missing-count, has-count}
 use borrow.Author.Needs.{needs}
 use Rattle.record.proofs.splitter.states_of.Statement.{statement}
 use Rattle.record.proofs.splitter.states_of.Tie as tie
@@ -20,7 +21,7 @@ line-end-requires : tie.Need-line-end-requires
 line-end-requires c κs = search needs
 
 slice-aggregate-equal : tie.Need-slice-aggregate-equal
-slice-aggregate-equal c = let s = c .before .before .before .args .bytes .now in sym (length-take-le (c .before .line-end .result) s (omega (arith, c .before .line-end .ensures, before-short s)))
+slice-aggregate-equal c = let s = c .before .before .before .args .bytes .now in sym (length-take-le (c .before .line-end .result) s (omega (arith, c .before .line-end .ensures, before-length s)))
 
 slice-aggregate-equal-2 : tie.Need-slice-aggregate-equal-2
 slice-aggregate-equal-2 c = search needs
