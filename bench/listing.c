@@ -1,5 +1,6 @@
-// The listing program in plain C: the proved program's way from bytes to bytes (crates/record, reader, report, listing) over the plain
-// engine. Reads a record on standard input, and prints its listing.
+// The listing program in plain C: the proved program's way from bytes to bytes (crates/record, reader, totals, report, listing) over the
+// plain engine. Reads a record on standard input, and prints its listing.
+#include "counts.h"
 #include "engines.h"
 #include <stdio.h>
 #include <stdlib.h>
@@ -195,12 +196,12 @@ static size_t put_answer(size_t at, size_t line, uint32_t answer)
 
 static size_t put_totals(size_t at)
 {
-    size_t counts[DEAD + 1] = {0};
-    for (size_t s = 0; s < states; s++) counts[status[s]]++;
-    at = put_ending(at, "end open ", counts[OPEN]);
-    at = put_ending(at, "end unknown ", counts[UNKNOWN]);
-    at = put_ending(at, "end live ", counts[LIVE]);
-    return put_ending(at, "end dead ", counts[DEAD]);
+    size_t open, unknown, live, dead;
+    baseline_totals(states, status, MAX_STATES, &open, &unknown, &live, &dead);
+    at = put_ending(at, "end open ", open);
+    at = put_ending(at, "end unknown ", unknown);
+    at = put_ending(at, "end live ", live);
+    return put_ending(at, "end dead ", dead);
 }
 
 // ---- the program

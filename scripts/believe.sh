@@ -56,6 +56,7 @@ table() {
     row '`Engine::update`' engine/Promise
     row '`Graph::status`' tables/Refused
     row '`steplist::find_step`' steplist/Places tables/Listing
+    row '`totals::count`' totals/Counting
     row '`audit`' audit/Audited
     row '`Splitter`, `Line`' record/Splitting record/Items
     row '`reader::open`' reader/Opening

@@ -384,6 +384,10 @@ listing_fault "news falling" "$(within print_news 's/news\[i\]/news[count - 1 - 
 listing_fault "lines counted from 0" "$(within print_news 's/n", number, /n", number - 1, /')"
 listing_fault "unknown and live exchanged" 's/"unknown", "live"/"live", "unknown"/'
 listing_fault "the last state is not counted" "$(within print_totals 's/s < n/s + 1 < n/')"
+listing_fault "the last state of each 128 is not counted" "$(within print_totals 's/s++) totals/s++) if (s % 128 != 127) totals/')"
+listing_fault "the 256th state of a status is not counted" "$(within print_totals 's/totals\[status\[s\]\]++/if (totals[status[s]] != 255) totals[status[s]]++/')"
+listing_fault "a total is kept in a byte" "$(within print_totals 's/size_t totals/uint8_t totals/; s/%zu/%u/')"
+listing_fault "an unseen state is counted as open" "$(within print_totals 's/totals\[status\[s\]\]++/totals[status[s] ? status[s] : OPEN]++/')"
 listing_fault "state 2,047 is not counted" "$(within print_totals 's/s < n/s < n \&\& s < 2047/')"
 listing_fault "no totals after 10" "$(within reading_end 's/if (listing) print_totals/if (listing \&\& r->refused != 10) print_totals/')"
 listing_fault "no totals after 12" "$(within reading_end 's/if (listing) print_totals/if (listing \&\& r->lines < 65536) print_totals/')"

@@ -497,6 +497,33 @@ void each_count(size_t step, void (*hold)(size_t piece))
         hold_count((Form)(count % 2), text, (size_t)sprintf(text, "%zu", count), count, hold);
 }
 
+// A record of n states, each at random of one of the statuses whose bits are in the mix. The last state is open where another is unknown.
+static void mixed_record(size_t n, unsigned mix)
+{
+    start_counted(some_form(), n);
+    add_update((Update){'E', n - 1, n - 1, some_key()});
+    for (size_t s = 0; s < n - 1; s++) {
+        size_t status = below(5);
+        while (!(mix >> status & 1)) status = (status + 1) % 5;
+        if (status == OPEN) add_update((Update){'E', s, s, some_key()});
+        if (status == UNKNOWN) add_update((Update){'E', s, n - 1, some_key()});
+        if (status == LIVE) add_update((Update){'T', s, 0, 0});
+        if (status == UNKNOWN || status == DEAD) add_update((Update){'C', s, 0, 0});
+    }
+    if (mix == 1 << LIVE) add_update((Update){'T', n - 1, 0, 0});
+    if (mix == 1 << DEAD) add_update((Update){'C', n - 1, 0, 0});
+}
+
+void each_mix(void (*hold)(size_t piece))
+{
+    static const size_t counts[] = {1, 2, 15, 16, 17, 127, 128, 129, 130, 255, 256, 257, 258, 511, 512, 513, 1000, 1024, 2047, 2048};
+    for (size_t i = 0; i < 31 * 20 && !failed; i++) {
+        progress(i, 31 * 20);
+        mixed_record(counts[i / 31], (unsigned)(i % 31 + 1));
+        hold(0);
+    }
+}
+
 // Bytes behind the word or the count, or in the place of one, up to many more than a line may have.
 static void long_heads(void (*hold)(size_t piece))
 {

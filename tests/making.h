@@ -55,6 +55,7 @@ void awkward_records(void (*hold)(size_t piece));                  // lines at t
 void beginnings(void (*hold)(size_t piece));                       // the empty record among them, and names lines that are not exact
 void other_heads(void (*hold)(size_t piece));                      // lines of the head missing, twice, late, long, and what is no count
 void each_count(size_t step, void (*hold)(size_t piece));          // each count up to 2,100, by such steps, and greater ones
+void each_mix(void (*hold)(size_t piece));                         // states of each mix of statuses, up to 2,048
 void many_lines(size_t count, void (*hold)(size_t piece));         // 65,534 to 65,537
 void long_lines(void (*hold)(size_t piece));                       // of up to ten million bytes
 void records_in_pieces(size_t count, void (*hold)(size_t piece));

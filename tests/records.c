@@ -217,6 +217,7 @@ static void group_awkward(void) { awkward_records(hold_record); }
 static void group_beginnings(void) { beginnings(hold_record); }
 static void group_heads(void) { other_heads(hold_record); }
 static void group_counts(void) { each_count(by_scale(23, 1, 1), hold_record); }
+static void group_mixes(void) { each_mix(hold_record); }
 static void group_many_lines(void) { many_lines(by_scale(4, 12, 120), hold_record); }
 static void group_long_lines(void) { long_lines(hold_record); }
 static void group_pieces(void) { records_in_pieces(rounds(400), hold_record); }
@@ -371,6 +372,7 @@ static const Group groups[] = {
     {"beginnings, the empty record among them", group_beginnings},
     {"lines of the head missing, twice, late, long, and no counts", group_heads},
     {"each count up to 2,100", group_counts},
+    {"states of each mix of statuses", group_mixes},
     {"65,534 to 65,537 lines", group_many_lines},
     {"lines of up to ten million bytes", group_long_lines},
     {"records that come in pieces", group_pieces},

@@ -3,20 +3,20 @@
 use mathlib.Core.Path.{_≡_, refl, sym}
 use mathlib.Core.Bool.{Bool, true, false, cond}
 use mathlib.Core.List.{List, [], _∷_, _++_, append-assoc, append-nil}
-use Prim.Native.Nat.{ℕ, zero, suc, _+_, _*_, _≤_, _<_}
+use Prim.Native.Nat.{ℕ, suc, _+_, _*_, _≤_, _<_}
 use native.Mathlib.Omega.{arith}
 use native.Mathlib.Decide.{decLt}
 use native.Mathlib.Numerals.{add-one}
 use lib.Dec.{eqb}
-use mir.Val.{boolByte}
 use lib.ListN.{length, getD, take, length-append, List·getD-eq-default}
 use lib.Seq.{take-suc, length-take-le, getD-take}
-use Rattle.gid.specs.News.{below}
 use Rattle.record.specs.Text.{decimal, WroteAt}
 use Rattle.record.proofs.Decimals.{five-digits}
 use Rattle.record.proofs.Placing.{placed-then}
-use Rattle.report.specs.declared.totals.Totals.{Totals}
-use Rattle.report.specs.Texts.{openWord, unknownWord, endLiveWord, endDeadWord, ending, row, newsText, verdictWord, having, totalsBelow, totalsText}
+use Rattle.totals.specs.declared.Totals.{Totals}
+use Rattle.totals.specs.Counting.{having, totalsBelow}
+use Rattle.totals.proofs.Counting.{Few, having-few}
+use Rattle.report.specs.Texts.{openWord, unknownWord, endLiveWord, endDeadWord, ending, row, newsText, verdictWord, totalsText}
 
 pub ending-length : (word : List ℕ) (n : ℕ) → length (ending word n) ≡ length word + length (decimal n) + 1
 unfolding ending
@@ -31,27 +31,6 @@ row-length line word n = length-append (decimal line) (ending word n)
 
 pub row-room : (line : ℕ) (word : List ℕ) (n : ℕ) → line < 100000 → n < 100000 → length (row line word n) ≤ length word + 11
 row-room line word n p q = omega (arith, row-length line word n, ending-room word n q, five-digits line p)
-
-pub none-below : (f : ℕ → ℕ) (k : ℕ) → having 0 f k ≡ 0
-unfolding below
-none-below f k = refl
-
-pub having-more : (n : ℕ) (f : ℕ → ℕ) (k : ℕ) → having (n + 1) f k ≡ having n f k + cond (eqb (f n) k) 1 0
-unfolding below
-having-more n f k = rw (add-one n, length-append (below n (λ s. eqb (f s) k)) (cond (eqb (f n) k) (n ∷ []) [])) (by (eqb (f n) k))
-  where
-    by : (b : Bool) → having n f k + length (cond b (n ∷ []) []) ≡ having n f k + cond b 1 0
-    by true = refl
-    by false = refl
-
-pub having-few : (n : ℕ) (f : ℕ → ℕ) (k : ℕ) → having n f k ≤ n
-unfolding below
-having-few zero f k = omega arith
-having-few (suc n) f k = rw (length-append (below n (λ s. eqb (f s) k)) (cond (eqb (f n) k) (n ∷ []) [])) (by (eqb (f n) k) (having-few n f k))
-  where
-    by : (b : Bool) → having n f k ≤ n → having n f k + length (cond b (n ∷ []) []) ≤ suc n
-    by true h = omega arith
-    by false h = omega arith
 
 -- the news, one state more
 pub news-more : (line : ℕ) (f : ℕ → ℕ) (l : List ℕ) (s : ℕ) → newsText line f (l ++ (s ∷ [])) ≡ newsText line f l ++ row line (verdictWord (f s)) s
@@ -78,17 +57,6 @@ news-then at line f l i d e g r k h w v p q z =
     rw (add-one i, take-suc l i 0 h, news-more line f (take i l) (getD l i 0))
     (placed-then at (newsText line f (take i l)) (row line (verdictWord (f (getD l i 0))) (getD l i 0)) d e g r k w v (omega (arith, verdict-room line (f (getD l i 0)) (getD l i 0) q z)))
 
--- one state more is counted
-pub counted : (i : ℕ) (f : ℕ → ℕ) (k x y : ℕ) → x ≡ having i f k → y ≡ f i → x + boolByte (eqb y k) ≡ having (i + 1) f k
-counted i f k x y p q = rw (p, q, having-more i f k) (by (eqb (f i) k))
-  where
-    by : (b : Bool) → having i f k + boolByte b ≡ having i f k + cond b 1 0
-    by true = refl
-    by false = refl
-
-pub counted-fits : (i : ℕ) (f : ℕ → ℕ) (k x y : ℕ) → x ≡ having i f k → y ≡ f i → i < 2048 → x + boolByte (eqb y k) ≤ 2048
-counted-fits i f k x y p q h = omega (arith, counted i f k x y p q, having-few (i + 1) f k)
-
 pub news-few : (line : ℕ) (f : ℕ → ℕ) (l : List ℕ) (i : ℕ) → i ≤ length l → line < 100000 → ((j : ℕ) → getD l j 0 < 65536) → length (newsText line f (take i l)) ≤ 17 * i
 news-few line f l i h p q = omega (arith, news-room line f (take i l) p (λ j. by j (decLt j i)), length-take-le i l h)
   where
@@ -96,18 +64,7 @@ news-few line f l i h p q = omega (arith, news-room line f (take i l) p (λ j. b
     by j (yes z) = rw (getD-take i l j 0 z) (omega (arith, q j))
     by j (no z) = rw (List·getD-eq-default (take i l) 0 {n = j} (omega (arith, length-take-le i l h))) (omega arith)
 
--- the four counts are at most 2,048
-pub record Small (t : Totals) : Type 0 where
-  pub opens : t .«open» ≤ 2048
-  pub unknowns : t .unknown ≤ 2048
-  pub lives : t .live ≤ 2048
-  pub deads : t .dead ≤ 2048
-
-pub totals-small : (n : ℕ) → n ≤ 2048 → (f : ℕ → ℕ) (t : Totals) → t ≡ totalsBelow n f → Small t
-totals-small n h f t e =
-    rw e (record { opens = omega (arith, having-few n f 1); unknowns = omega (arith, having-few n f 2); lives = omega (arith, having-few n f 3); deads = omega (arith, having-few n f 4) })
-
-pub totals-placed : (at : ℕ) (t : Totals) → Small t → (d e₁ e₂ e₃ e₄ : List ℕ) (r₁ r₂ r₃ r₄ : ℕ) → at + 80 ≤ length d → WroteAt at (ending openWord (t .«open»)) d e₁ r₁ → WroteAt r₁ (ending unknownWord (t .unknown)) e₁ e₂ r₂ → WroteAt r₂ (ending endLiveWord (t .live)) e₂ e₃ r₃ → WroteAt r₃ (ending endDeadWord (t .dead)) e₃ e₄ r₄ → WroteAt at (totalsText t) d e₄ r₄
+pub totals-placed : (at : ℕ) (t : Totals) → Few 2048 t → (d e₁ e₂ e₃ e₄ : List ℕ) (r₁ r₂ r₃ r₄ : ℕ) → at + 80 ≤ length d → WroteAt at (ending openWord (t .«open»)) d e₁ r₁ → WroteAt r₁ (ending unknownWord (t .unknown)) e₁ e₂ r₂ → WroteAt r₂ (ending endLiveWord (t .live)) e₂ e₃ r₃ → WroteAt r₃ (ending endDeadWord (t .dead)) e₃ e₄ r₄ → WroteAt at (totalsText t) d e₄ r₄
 unfolding totalsText
 totals-placed at t s d e₁ e₂ e₃ e₄ r₁ r₂ r₃ r₄ h p q u v =
     let a = ending openWord (t .«open») in

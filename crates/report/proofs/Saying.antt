@@ -11,10 +11,8 @@ use lib.ListN.{length, getD, take}
 use borrow.Author.Tests.{eqb-true, le-leb}
 use Rattle.gid.specs.Histories.{History}
 use Rattle.gid.specs.Statuses.{status}
-use Rattle.gid.specs.News.{below}
 use Rattle.gid.specs.Refusals.{maxStates}
 use Rattle.gid.specs.Outcomes.{Outcome, refused, accepted}
-use Rattle.gid.proofs.News.{below-same}
 use Rattle.tables.specs.declared.Graph.{Graph}
 use Rattle.tables.specs.Tables.{Tables}
 use Rattle.engine.specs.declared.Answer.{Answer}
@@ -36,7 +34,9 @@ use Rattle.reader.specs.Standing.{Standing}
 use Rattle.reader.specs.Advancing.{Passed, itemsOf, Applies, none as no-line, next, waited, Quiet, Stops, found, ended}
 use Rattle.reader.proofs.Lines.{line-right, head-right}
 use Rattle.reader.proofs.Ending.{Silent, count-answer}
-use Rattle.report.specs.Texts.{refusedWord, refusedText, newsText, totalsBelow, totalsText}
+use Rattle.totals.specs.Counting.{totalsBelow}
+use Rattle.totals.proofs.Counting.{totals-same}
+use Rattle.report.specs.Texts.{refusedWord, refusedText, newsText, totalsText}
 use Rattle.report.specs.Listing.{outcomeText, lineText, linesText}
 use Rattle.report.specs.Printing.{lineRoom, answerText, passedText, tableTotals}
 use Rattle.report.specs.Lister.{least}
@@ -111,12 +111,6 @@ pub passed-then : (l m : List Passed) → passedText (l ++ m) ≡ passedText l +
 unfolding passedText
 passed-then [] m = refl
 passed-then (p ∷ l) m = rw (passed-then l m) (sym (append-assoc (answerText (p .answer) (p .after .news) (p .after .status)) (passedText l) (passedText m)))
-
-totals-same : (n : ℕ) (f g : ℕ → ℕ) → ((s : ℕ) → s < n → f s ≡ g s) → totalsBelow n f ≡ totalsBelow n g
-totals-same n f g e = rw (each 1, each 2, each 3, each 4) refl
-  where
-    each : (k : ℕ) → below n (λ s. eqb (f s) k) ≡ below n (λ s. eqb (g s) k)
-    each k = below-same n (λ s. eqb (f s) k) (λ s. eqb (g s) k) (λ s h. ap (λ (x : ℕ). eqb x k) (e s h))
 
 -- The totals of tables that fit are those of the history.
 pub totals-say : {start : Graph} {h : History} {g : Graph} {t : Tables} → start .n ≤ readerStates → Standing start h g t → tableTotals (least (g .n) readerStates) (t .status) ≡ totalsText (totalsBelow (start .n) (status h))

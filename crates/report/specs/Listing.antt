@@ -10,7 +10,8 @@ use Rattle.record.specs.declared.splitter.Item.{Item}
 use Rattle.record.specs.Items.{items, itemLine}
 use Rattle.reader.specs.Replaying.{outcomeOf, afterItem, afterItems, recordStart}
 use Rattle.reader.specs.Reading.{recordLimit}
-use Rattle.report.specs.Texts.{header, refusedText, newsText, totalsBelow, totalsText}
+use Rattle.totals.specs.Counting.{totalsBelow}
+use Rattle.report.specs.Texts.{header, refusedText, newsText, totalsText}
 
 -- The text of an outcome, with the line's number and the statuses after it.
 abbrev pub outcomeText : ℕ → (ℕ → ℕ) → Outcome (List ℕ) → List ℕ

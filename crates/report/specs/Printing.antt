@@ -10,7 +10,8 @@ use Rattle.record.specs.declared.splitter.Splitter.{Splitter}
 use Rattle.reader.specs.declared.driver.LineAnswer.{LineAnswer}
 use Rattle.reader.specs.declared.driver.LineAnswer.the-variants.{Nothing, Accepted, Refused}
 use Rattle.reader.specs.Advancing.{Passed, Follows}
-use Rattle.report.specs.Texts.{refusedText, newsText, totalsBelow, totalsText}
+use Rattle.totals.specs.Counting.{totalsBelow}
+use Rattle.report.specs.Texts.{refusedText, newsText, totalsText}
 
 -- The room that one line's text may take: 17 bytes for each of 2,048 states.
 abbrev pub lineRoom : ℕ

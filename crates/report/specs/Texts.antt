@@ -4,11 +4,9 @@ use mathlib.Core.Bool.{cond}
 use mathlib.Core.List.{List, [], _∷_, _++_}
 use Prim.Native.Nat.{ℕ}
 use lib.Dec.{eqb}
-use lib.ListN.{length}
-use Rattle.gid.specs.Statuses.{statusOpen, statusUnknown, statusLive, statusDead}
-use Rattle.gid.specs.News.{below}
+use Rattle.gid.specs.Statuses.{statusLive}
 use Rattle.record.specs.Text.{decimal}
-use Rattle.report.specs.declared.totals.Totals.{Totals}
+use Rattle.totals.specs.declared.Totals.{Totals}
 
 -- "It prints a header": `line verdict number`.
 abbrev pub header : List ℕ
@@ -58,21 +56,7 @@ unfoldable pub newsText : ℕ → (ℕ → ℕ) → List ℕ → List ℕ
 newsText line status [] = []
 newsText line status (s ∷ l) = row line (verdictWord (status s)) s ++ newsText line status l
 
--- The number of states below n with status k.
-abbrev pub having : ℕ → (ℕ → ℕ) → ℕ → ℕ
-having n status k = length (below n (λ s. eqb (status s) k))
-
--- "four counts", over the first n states.
-abbrev pub totalsBelow : ℕ → (ℕ → ℕ) → Totals
-totalsBelow n status =
-    record {
-      «open» = having n status statusOpen;
-      unknown = having n status statusUnknown;
-      live = having n status statusLive;
-      dead = having n status statusDead;
-    }
-
--- "then four counts": open, unknown, live, dead.
+-- "then four counts": open, unknown, live, dead. What they count is totals/specs/Counting.antt.
 unfoldable pub totalsText : Totals → List ℕ
 totalsText t = ending openWord (t .«open») ++ ending unknownWord (t .unknown) ++ ending endLiveWord (t .live) ++ ending endDeadWord (t .dead)
 

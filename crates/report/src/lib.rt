@@ -2,7 +2,6 @@
 mod lines;
 mod lister;
 mod text;
-mod totals;
 
 pub use lister::Lister;
 pub use lister::begin;

@@ -5,11 +5,11 @@ ghost use Rattle.gid.specs.Refusals.{maxStates};
 ghost use Rattle.record.specs.Text.{WroteAt};
 ghost use Rattle.report.specs.Texts.{totalsRoom, header, ending, row, refusedText, verdictWord, newsText};
 ghost use Rattle.report.specs.Printing.{tableTotals};
-use crate::totals::count;
 use record::put_bytes_at;
 use record::put_number_at;
 use tables::LIVE;
 use tables::status_of;
+use totals::count;
 
 // The room that the totals take.
 pub const TOTALS_ROOM: usize = 80;
