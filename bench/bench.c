@@ -5,7 +5,6 @@
 #include <stdio.h>
 #include <stdlib.h>
 #include <string.h>
-#include <time.h>
 
 enum { RUNS = 41, MOST_UPDATES = MAX_STEPS + 2 * MAX_STATES };
 
@@ -190,14 +189,6 @@ static void fresh(void)
     memset(visited, 0, sizeof visited), memset(in_next, 0, sizeof in_next), memset(out_next, 0, sizeof out_next);
 }
 
-// Nanoseconds of this thread, so that others on the machine count little.
-static double now(void)
-{
-    struct timespec t;
-    clock_gettime(CLOCK_THREAD_CPUTIME_ID, &t);
-    return (double)t.tv_sec * 1e9 + (double)t.tv_nsec;
-}
-
 // As many steps as there can be, but where a list is to be full.
 static size_t limit = MAX_STEPS;
 
@@ -212,9 +203,9 @@ static double run(update_call *update)
 {
     size_t steps = 0;
     fresh();
-    double start = now();
+    double start = thread_time();
     for (size_t i = 0; i < count; i++) send(update, list[i], &steps);
-    return now() - start;
+    return thread_time() - start;
 }
 
 // Not a call that the compiler knows to do nothing.
@@ -489,9 +480,9 @@ static void time_calls(void *memory, size_t size)
     for (int r = 0; r < CALL_RUNS; r++)
         for (int c = 0; c < CALLS; c++) {
             uint32_t sum = radvoinis_tables_fresh(&tables, memory, size, MAX_STATES, MAX_STEPS);
-            double start = now();
+            double start = thread_time();
             for (uint32_t i = 0; i < MAX_STEPS; i++) sum |= calls[c].step(u[i], v[i], i % (MAX_KEY + 1));
-            calls[c].times[r] = now() - start;
+            calls[c].times[r] = thread_time() - start;
             if (sum != 0 || tables.steps != MAX_STEPS) disagree(calls[c].name);
         }
 }
@@ -557,7 +548,7 @@ static double ask(update_call *update, Asked what, const Sent *asked, size_t lis
 {
     uint32_t right = what == FROM_CLOSED ? REFUSED + 6 : what == ONE_TOO_MANY ? REFUSED + 9 : 0, wrong = 0;
     size_t before = what == NEW_STEP ? listed - 1 : listed;
-    double start = now();
+    double start = thread_time();
     for (int i = 0; i < ASK_CALLS; i++) {
         Sent u = asked[i];
         size_t steps = before;
@@ -565,7 +556,7 @@ static double ask(update_call *update, Asked what, const Sent *asked, size_t lis
         wrong |= (send(update, u, &steps) ^ right) | (uint32_t)(steps ^ listed);
         in_head[u.second] = into, out_head[u.first] = out_of;
     }
-    double ns = (now() - start) / ASK_CALLS;
+    double ns = (thread_time() - start) / ASK_CALLS;
     if (wrong) disagree("what is right");
     return ns;
 }

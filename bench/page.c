@@ -1,8 +1,9 @@
-// The page of the benchmark, and the median.
+// The page of the benchmark, the clock and the median.
 #include "page.h"
 #include <stdarg.h>
 #include <stdio.h>
 #include <stdlib.h>
+#include <time.h>
 #include <unistd.h>
 
 static FILE *file;
@@ -31,6 +32,13 @@ void goal(const char *what, double value, int met) { out("- %s: %.2f, %s\n", wha
 void progress(const char *what, const char *how)
 {
     if (isatty(2)) fprintf(stderr, "\r%-70s\r%s %s", "", what, how);
+}
+
+double thread_time(void)
+{
+    struct timespec t;
+    clock_gettime(CLOCK_THREAD_CPUTIME_ID, &t);
+    return (double)t.tv_sec * 1e9 + (double)t.tv_nsec;
 }
 
 static int compare(const void *a, const void *b)

@@ -1,4 +1,4 @@
-// What the two parts of the benchmark share: the page that they write, to the terminal and to a file, and the median.
+// What the parts of the benchmark share: the page that they write, to the terminal and to a file, the clock of a thread and the median.
 #ifndef PAGE_H
 #define PAGE_H
 
@@ -14,6 +14,9 @@ void goal(const char *what, double value, int met);
 
 // Says on a terminal what is being measured.
 void progress(const char *what, const char *how);
+
+// Nanoseconds of this thread, so that others on the machine count little.
+double thread_time(void);
 
 // The median of k times, which are sorted.
 double median(double *times, size_t k);

@@ -5,7 +5,6 @@
 #include "page.h"
 #include <stdlib.h>
 #include <string.h>
-#include <time.h>
 
 enum { STATES = 2048, RUNS = 201, CALLS = 64, MIXES = 31, MOST_CASES = 31 };
 
@@ -48,13 +47,6 @@ static const char *name_of(unsigned mix)
     return name;
 }
 
-static double now(void)
-{
-    struct timespec t;
-    clock_gettime(CLOCK_THREAD_CPUTIME_ID, &t);
-    return (double)t.tv_sec * 1e9 + (double)t.tv_nsec;
-}
-
 static void count(int way, const Case *c, size_t *t) { ways[way].count(c->n, c->status, STATES, &t[0], &t[1], &t[2], &t[3]); }
 
 // Ends the program unless all ways count alike.
@@ -74,9 +66,9 @@ static void hold(const Case *c)
 static double time_calls(int way, const Case *c)
 {
     size_t t[4];
-    double start = now();
+    double start = thread_time();
     for (int k = 0; k < CALLS; k++) count(way, c, t);
-    return (now() - start) / CALLS;
+    return (thread_time() - start) / CALLS;
 }
 
 typedef struct {

@@ -39,7 +39,7 @@ use Rattle.totals.proofs.Counting.{totals-same}
 use Rattle.report.specs.Texts.{refusedWord, refusedText, newsText, totalsText}
 use Rattle.report.specs.Listing.{outcomeText, lineText, linesText}
 use Rattle.report.specs.Printing.{lineRoom, answerText, passedText, tableTotals}
-use Rattle.report.specs.Lister.{least}
+use Rattle.tables.specs.Numbers.{least}
 use Rattle.report.proofs.Placing.{row-room}
 
 -- statuses that agree on the news print the same

@@ -34,8 +34,9 @@ use Rattle.report.specs.declared.lister.Lister.{Lister}
 use Rattle.report.specs.Texts.{header}
 use Rattle.report.specs.Listing.{linesText, printed, listing}
 use Rattle.report.specs.Progress.{leftBy, Ongoing, Finished, ListingProgress, reads, writes, ends}
+use Rattle.tables.specs.Numbers.{least}
 use Rattle.report.specs.Printing.{passedText, tableTotals}
-use Rattle.report.specs.Lister.{listerRoom, begins, least, placeBy, startBy, BeginsListing, Lists, full, pauses, goes-on, stopped, ended}
+use Rattle.report.specs.Lister.{listerRoom, begins, placeBy, startBy, BeginsListing, Lists, full, pauses, goes-on, stopped, ended}
 use Rattle.report.proofs.Saying.{lines-say, begins-say, lines-then, totals-say}
 
 -- what is left, said in another way

@@ -26,22 +26,16 @@ use Rattle.report.specs.declared.lines.LinesEnd.{LinesEnd}
 use Rattle.report.specs.declared.lister.Lister.{Lister}
 use Rattle.reader.specs.declared.task.Task.{Task}
 use Rattle.reader.specs.declared.task.Task.the-variants.{Read, Write, End}
+use Rattle.tables.proofs.Numbers.{lesser}
 use Rattle.report.specs.Printing.{lineRoom, passedText, Lines}
-use Rattle.report.specs.Lister.{listerRoom, least, placeBy, startBy, short, totals, AfterLines, waits, continues, stops, ends, Lists, full, pauses, goes-on, stopped, ended}
+use Rattle.report.specs.Lister.{listerRoom, placeBy, startBy, short, totals, AfterLines, waits, continues, stops, ends, Lists, full, pauses, goes-on, stopped, ended}
 use Rattle.report.proofs.Saying.{silent-text, lacks-room}
-
-pub least-within : (a b : ℕ) → least a b ≤ b
-least-within a b = by (leb a b) refl
-  where
-    by : (q : Bool) → leb a b ≡ q → cond q a b ≤ b
-    by true e = leb-true a b e
-    by false e = omega arith
 
 -- a piece is read from an index within it
 pub start-within : (task : Task) (next len : ℕ) → startBy task next len ≤ len
 start-within Read next len = omega arith
-start-within Write next len = least-within next len
-start-within End next len = least-within next len
+start-within Write next len = lesser next len .right
+start-within End next len = lesser next len .right
 
 pub start-piece : (task : Task) (next : ℕ) (piece newline : List ℕ) → startBy task next (length piece) ≤ length (pieceOr piece newline)
 start-piece task next [] newline = omega (arith, start-within task next 0)
@@ -159,7 +153,7 @@ placed-within : {at r : ℕ} {text output output′ : List ℕ} → WroteAt at t
 placed-within {at} {r} {text} {output} {output′} w h = placed-length at text output output′ r w (omega (arith, w .after))
 
 pub lists-within : {l : Lister} {piece output : List ℕ} {t : Tables} {l′ : Lister} {output′ : List ℕ} {t′ : Tables} → Lists l piece output t l′ output′ t′ → (l′ .end ≤ length output) × (length output′ ≡ length output)
-lists-within {l} {output = output} (full h q z w) = (rw q (least-within (placeBy (l .task) (l .end)) (length output)), ap length z)
+lists-within {l} {output = output} (full h q z w) = (rw q (lesser (placeBy (l .task) (l .end)) (length output) .right), ap length z)
 lists-within (pauses f k s w h) = (h, placed-within w h)
 lists-within (goes-on f o k g s w h) = (h, placed-within w h)
 lists-within (stopped f k s w h) = (h, placed-within w h)

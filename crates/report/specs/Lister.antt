@@ -1,13 +1,14 @@
 -- What each call of a listing does, on tables with any contents.
 -- Assumes nothing.
 use mathlib.Core.Path.{_≡_}
-use mathlib.Core.Bool.{Bool, true, false, cond, _&&_}
+use mathlib.Core.Bool.{Bool, true, false, _&&_}
 use mathlib.Core.List.{List, [], _++_}
 use mathlib.Core.Option.{Option, some, none}
 use Prim.Native.Nat.{ℕ, _+_, _≤_, _<_}
 use lib.Dec.{leb}
 use lib.ListN.{length, drop}
 use Rattle.tables.specs.Tables.{Tables}
+use Rattle.tables.specs.Numbers.{least}
 use Rattle.record.specs.Text.{WroteAt}
 use Rattle.record.specs.Splitting.{started, lastNewlines}
 use Rattle.reader.specs.declared.Reader.{Reader}
@@ -54,9 +55,6 @@ pub record BeginsListing (output : List ℕ) (t : Tables) (r : Lister) (output�
   pub lister : r ≡ listerBy (begins output t)
   pub tables : t′ ≡ freshBy t (begins output t)
   pub text : output′ ≡ headed output (begins output t)
-
-abbrev pub least : ℕ → ℕ → ℕ
-least a b = cond (leb a b) a b
 
 -- The totals are over the states of the state value, and no more than there can be.
 abbrev pub totalsBy : Reader → List ℕ → List ℕ

@@ -6,7 +6,7 @@ ghost use lib.ListN.{length};
 ghost use Rattle.tables.specs.Tables.{Tables, tablesOf};
 ghost use Rattle.reader.specs.Opening.{Opens};
 ghost use Rattle.reader.specs.Reading.{recordLimit};
-ghost use Rattle.report.specs.Lister.{listerRoom, idle, placeBy, startBy, least, BeginsListing, Lists, PutsTotals, AfterLines};
+ghost use Rattle.report.specs.Lister.{listerRoom, idle, placeBy, startBy, BeginsListing, Lists, PutsTotals, AfterLines};
 use crate::lines::LINE_ROOM;
 use crate::lines::LinesEnd;
 use crate::lines::list_lines;
@@ -21,6 +21,7 @@ use reader::Task;
 use reader::piece_or;
 use tables::Graph;
 use tables::MAX_STATES;
+use tables::least;
 
 // The output's least length: room for a line and the totals.
 const LISTER_ROOM: usize = LINE_ROOM + TOTALS_ROOM;
@@ -193,12 +194,6 @@ fn start(task: Task, next: usize, len: usize) -> usize
         Task::Write => least(next, len),
         Task::End => least(next, len),
     }
-}
-
-fn least(a: usize, b: usize) -> usize
-    ensures { λ r. ⌜ r ≡ least a b ⌝ }
-{
-    if a <= b { a } else { b }
 }
 
 // Whether the output is short of room behind a place.

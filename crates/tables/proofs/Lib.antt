@@ -1,5 +1,6 @@
 -- The laws of the tables and of the refusals.
 pub mod Keeping
+pub mod Numbers
 pub mod Refusing
 pub mod Dead
 pub mod Sizes

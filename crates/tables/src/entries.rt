@@ -1,8 +1,9 @@
-// Entries of the lent tables: read past the end as a value that stands for none, and the first ones set to one value.
+// Entries of the lent tables: read past the end as a value that stands for none, the first ones set to one value, and how many there are to look at.
 ghost use mathlib.Core.Path.{_≡_};
 ghost use Prim.Native.Nat.{_≤_};
 ghost use lib.ListN.{length, getD};
 ghost use Rattle.tables.specs.Keeping.{filled};
+ghost use Rattle.tables.specs.Numbers.{least};
 
 // The status of a state, unseen past the table's end.
 pub fn status_of(status: &[u8], s: usize) -> u8
@@ -41,4 +42,10 @@ pub fn fill(table: &mut [u16], count: usize, value: u16)
         table[i] = value;
         i += 1;
     }
+}
+
+pub fn least(a: usize, b: usize) -> usize
+    ensures { λ r. ⌜ r ≡ least a b ⌝ }
+{
+    if a <= b { a } else { b }
 }

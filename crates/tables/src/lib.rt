@@ -17,6 +17,7 @@ mod visits;
 
 pub use entries::fill;
 pub use entries::fill_bytes;
+pub use entries::least;
 pub use entries::status_of;
 pub use entries::wide;
 use gid::Edge;

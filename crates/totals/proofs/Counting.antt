@@ -12,6 +12,8 @@ use lib.ListN.{length, getD, length-append, List·getD-eq-default}
 use mir.Val.{boolByte}
 use Rattle.gid.specs.News.{below}
 use Rattle.gid.proofs.News.{below-same}
+use Rattle.tables.specs.Numbers.{least}
+use Rattle.tables.proofs.Numbers.{lesser}
 use Rattle.totals.specs.declared.Totals.{Totals}
 use Rattle.totals.specs.Counting.{having, totalsBelow}
 use Rattle.totals.specs.Blocks.{Adds}
@@ -78,7 +80,7 @@ pub adds-none : (start : ℕ) (f : ℕ → ℕ) → Adds start start f (record {
 adds-none start f = record { opens = omega arith; unknowns = omega arith; lives = omega arith; deads = omega arith }
 
 -- One state more.
-abbrev withOne : ℕ → Totals → Totals
+abbrev pub withOne : ℕ → Totals → Totals
 withOne y t =
     record {
       «open» = t .«open» + boolByte (eqb y 1);
@@ -108,7 +110,7 @@ pub one-few : (start i m : ℕ) (f : ℕ → ℕ) (t : Totals) → start ≤ i �
 one-few start i m f t l h a = adds-few start (i + 1) m f (withOne (f i) t) (omega arith) (omega arith) (adds-one start i (i + 1) f t refl a)
 
 -- The states of one block behind those of others.
-abbrev plus : Totals → Totals → Totals
+abbrev pub plus : Totals → Totals → Totals
 plus t u =
     record {
       «open» = t .«open» + u .«open»;
@@ -126,22 +128,25 @@ adds-then a b c f t u p q =
       deads = omega (arith, p .deads, q .deads);
     }
 
-pub sum-few : (b c : ℕ) (f : ℕ → ℕ) (t u : Totals) → Adds 0 b f t → Adds b c f u → Few c (plus t u)
-sum-few b c f t u p q = adds-few 0 c c f (plus t u) (omega arith) (omega arith) (adds-then 0 b c f t u p q)
-
 -- What the states that a table has add are the totals of any number of states, for all further ones are past its end.
-pub adds-all : (m n : ℕ) (l : List ℕ) (t : Totals) → m ≤ n → (m < n → length l ≤ m) → Adds 0 m (λ s. getD l s 0) t → t ≡ totalsBelow n (λ s. getD l s 0)
-adds-all m n l t h e a = same (each 1 refl (t .«open») (a .opens)) (each 2 refl (t .unknown) (a .unknowns)) (each 3 refl (t .live) (a .lives)) (each 4 refl (t .dead) (a .deads))
+pub adds-all : (n : ℕ) (l : List ℕ) (t : Totals) → Adds 0 (least n (length l)) (λ s. getD l s 0) t → t ≡ totalsBelow n (λ s. getD l s 0)
+adds-all n l t a i =
+    record {
+      «open» = each 1 refl (t .«open») (a .opens) i;
+      unknown = each 2 refl (t .unknown) (a .unknowns) i;
+      live = each 3 refl (t .live) (a .lives) i;
+      dead = each 4 refl (t .dead) (a .deads) i;
+    }
   where
     f : ℕ → ℕ
     f s = getD l s 0
 
+    m : ℕ
+    m = least n (length l)
+
     past : (k : ℕ) → eqb 0 k ≡ false → Dec (m < n) → having n f k ≡ having m f k
-    past k z (yes p) = having-past m (n - m) n l k (omega arith) (e p) z
-    past k z (no p) = let w : m ≡ n = omega arith in rw w refl
+    past k z (yes p) = let h = lesser n (length l) in having-past m (n - m) n l k (omega (arith, h .left)) (h .cut p) z
+    past k z (no p) = let w : m ≡ n = omega (arith, lesser n (length l) .left) in rw w refl
 
     each : (k : ℕ) → eqb 0 k ≡ false → (x : ℕ) → having m f k ≡ having 0 f k + x → x ≡ having n f k
     each k z x p = omega (arith, past k z (decLt m n), none-below f k)
-
-    same : t .«open» ≡ having n f 1 → t .unknown ≡ having n f 2 → t .live ≡ having n f 3 → t .dead ≡ having n f 4 → t ≡ totalsBelow n f
-    same p q r s i = record { «open» = p i; unknown = q i; live = r i; dead = s i }

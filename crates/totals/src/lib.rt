@@ -8,6 +8,7 @@ use tables::DEAD;
 use tables::LIVE;
 use tables::OPEN;
 use tables::UNKNOWN;
+use tables::least;
 
 pub struct Totals {
     pub open: usize,
@@ -24,7 +25,7 @@ const BLOCK: usize = 128;
 pub fn count(n: usize, status: &[u8]) -> Totals
     ensures { λ r. ⌜ r ≡ totalsBelow n (λ s. getD (now (status .entry)) s 0) ⌝ }
 {
-    let all = within(n, status.len());
+    let all = least(n, status.len());
     let mut open = 0;
     let mut unknown = 0;
     let mut live = 0;
@@ -45,13 +46,6 @@ pub fn count(n: usize, status: &[u8]) -> Totals
         live,
         dead,
     }
-}
-
-// How many of the first n states the table has.
-fn within(n: usize, len: usize) -> usize
-    ensures { λ r. ⌜ (r ≤ n) × (r ≤ len) × (r < n → len ≤ r) ⌝ }
-{
-    if n <= len { n } else { len }
 }
 
 fn block_end(start: usize, all: usize) -> usize

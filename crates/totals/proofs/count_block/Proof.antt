@@ -4,10 +4,13 @@ use mathlib.Core.Path.{_≡_}
 use Prim.Native.Nat.{_-_, _≤_}
 use native.Mathlib.Omega.{arith}
 use lib.ListN.{getD}
+use Rattle.totals.specs.declared.Totals.{Totals}
 use Rattle.totals.specs.Blocks.{Adds}
-use Rattle.totals.proofs.Counting.{adds-none, adds-one, adds-few, one-few}
+use Rattle.totals.proofs.Counting.{Few, withOne, adds-none, adds-one, adds-few, one-few}
 use Rattle.totals.proofs.count_block.Statement.{statement}
 use Rattle.totals.proofs.count_block.Tie as tie
+use Rattle.totals.proofs.count_block.Reads as reads
+use Rattle.totals.proofs.count_block.Lts as lts
 
 abbrev Inv-loop : tie.InvT-loop
 Inv-loop start end status open₀ unknown₀ live₀ dead₀ left₀ «open» unknown live dead left =
@@ -15,6 +18,10 @@ Inv-loop start end status open₀ unknown₀ live₀ dead₀ left₀ «open» un
 
 abbrev μ-loop : tie.MeasureT-loop
 μ-loop start end status open₀ unknown₀ live₀ dead₀ left₀ «open» unknown live dead left = left
+
+-- the counts at a turn of the loop
+abbrev counts : lts.At-loop reads.Pre reads.Post Inv-loop μ-loop → Totals
+counts l = record { «open» = l .loop .«open»; unknown = l .loop .unknown; live = l .loop .live; dead = l .loop .dead }
 
 sub-left : tie.Need-sub-left Inv-loop μ-loop
 sub-left c = omega arith
@@ -31,41 +38,46 @@ sub-k c = omega arith
 shared-slice-read-k : tie.Need-shared-slice-read-k Inv-loop μ-loop
 shared-slice-read-k c = omega arith
 
+-- the counts with the next state, and those at the end, fit in a byte
+next-few : (c : lts.After-shared-slice-known reads.Pre reads.Post Inv-loop μ-loop) → Few 255 (withOne (getD (c .before .before .before .args .status .now) (c .before .before .before .args .end - c .before .before .loop .left) 0) (counts (c .before .before)))
+next-few c =
+    let l = c .before .before in
+    let a = l .before .args in
+    one-few (a .start) (a .end - l .loop .left) 255 (λ s. getD (a .status .now) s 0) (counts l) (omega arith) (omega arith) (l .loop .inv .1)
+
+all-few : (c : lts.After-loop reads.Pre reads.Post Inv-loop μ-loop) → Few 255 (counts (c .before))
+all-few c =
+    let l = c .before in
+    let a = l .before .args in
+    adds-few (a .start) (a .end - l .loop .left) 255 (λ s. getD (a .status .now) s 0) (counts l) (omega arith) (omega arith) (l .loop .inv .1)
+
 cast-open : tie.Need-cast-open Inv-loop μ-loop
 cast-open c = tt
 
 add-open : tie.Need-add-open Inv-loop μ-loop
 add-open c =
-    let l = c .before .before in
-    let a = l .before .args in
-    record { fits = omega (arith, one-few (a .start) (a .end - l .loop .left) 255 (λ s. getD (a .status .now) s 0) (record { «open» = l .loop .«open»; unknown = l .loop .unknown; live = l .loop .live; dead = l .loop .dead }) (omega arith) (omega arith) (l .loop .inv .1) .opens) }
+    record { fits = omega (arith, next-few c .opens) }
 
 cast-unknown : tie.Need-cast-unknown Inv-loop μ-loop
 cast-unknown c = tt
 
 add-unknown : tie.Need-add-unknown Inv-loop μ-loop
 add-unknown c =
-    let l = c .before .before in
-    let a = l .before .args in
-    record { fits = omega (arith, one-few (a .start) (a .end - l .loop .left) 255 (λ s. getD (a .status .now) s 0) (record { «open» = l .loop .«open»; unknown = l .loop .unknown; live = l .loop .live; dead = l .loop .dead }) (omega arith) (omega arith) (l .loop .inv .1) .unknowns) }
+    record { fits = omega (arith, next-few c .unknowns) }
 
 cast-live : tie.Need-cast-live Inv-loop μ-loop
 cast-live c = tt
 
 add-live : tie.Need-add-live Inv-loop μ-loop
 add-live c =
-    let l = c .before .before in
-    let a = l .before .args in
-    record { fits = omega (arith, one-few (a .start) (a .end - l .loop .left) 255 (λ s. getD (a .status .now) s 0) (record { «open» = l .loop .«open»; unknown = l .loop .unknown; live = l .loop .live; dead = l .loop .dead }) (omega arith) (omega arith) (l .loop .inv .1) .lives) }
+    record { fits = omega (arith, next-few c .lives) }
 
 cast-dead : tie.Need-cast-dead Inv-loop μ-loop
 cast-dead c = tt
 
 add-dead : tie.Need-add-dead Inv-loop μ-loop
 add-dead c =
-    let l = c .before .before in
-    let a = l .before .args in
-    record { fits = omega (arith, one-few (a .start) (a .end - l .loop .left) 255 (λ s. getD (a .status .now) s 0) (record { «open» = l .loop .«open»; unknown = l .loop .unknown; live = l .loop .live; dead = l .loop .dead }) (omega arith) (omega arith) (l .loop .inv .1) .deads) }
+    record { fits = omega (arith, next-few c .deads) }
 
 sub-left-2 : tie.Need-sub-left-2 Inv-loop μ-loop
 sub-left-2 c = omega arith
@@ -77,31 +89,23 @@ loop-again : tie.Need-loop-again Inv-loop μ-loop
 loop-again c =
     let l = c .before .before in
     let a = l .before .args in
-    (omega arith, adds-one (a .start) (a .end - l .loop .left) (a .end - (l .loop .left - 1)) (λ s. getD (a .status .now) s 0) (record { «open» = l .loop .«open»; unknown = l .loop .unknown; live = l .loop .live; dead = l .loop .dead }) (omega arith) (l .loop .inv .1))
+    (omega arith, adds-one (a .start) (a .end - l .loop .left) (a .end - (l .loop .left - 1)) (λ s. getD (a .status .now) s 0) (counts l) (omega arith) (l .loop .inv .1))
 
 cast-t14 : tie.Need-cast-t14 Inv-loop μ-loop
 cast-t14 c =
-    let l = c .before in
-    let a = l .before .args in
-    record { fits = omega (arith, adds-few (a .start) (a .end - l .loop .left) 255 (λ s. getD (a .status .now) s 0) (record { «open» = l .loop .«open»; unknown = l .loop .unknown; live = l .loop .live; dead = l .loop .dead }) (omega arith) (omega arith) (l .loop .inv .1) .opens) }
+    record { fits = omega (arith, all-few c .opens) }
 
 cast-t15 : tie.Need-cast-t15 Inv-loop μ-loop
 cast-t15 c =
-    let l = c .before in
-    let a = l .before .args in
-    record { fits = omega (arith, adds-few (a .start) (a .end - l .loop .left) 255 (λ s. getD (a .status .now) s 0) (record { «open» = l .loop .«open»; unknown = l .loop .unknown; live = l .loop .live; dead = l .loop .dead }) (omega arith) (omega arith) (l .loop .inv .1) .unknowns) }
+    record { fits = omega (arith, all-few c .unknowns) }
 
 cast-t16 : tie.Need-cast-t16 Inv-loop μ-loop
 cast-t16 c =
-    let l = c .before in
-    let a = l .before .args in
-    record { fits = omega (arith, adds-few (a .start) (a .end - l .loop .left) 255 (λ s. getD (a .status .now) s 0) (record { «open» = l .loop .«open»; unknown = l .loop .unknown; live = l .loop .live; dead = l .loop .dead }) (omega arith) (omega arith) (l .loop .inv .1) .lives) }
+    record { fits = omega (arith, all-few c .lives) }
 
 cast-t17 : tie.Need-cast-t17 Inv-loop μ-loop
 cast-t17 c =
-    let l = c .before in
-    let a = l .before .args in
-    record { fits = omega (arith, adds-few (a .start) (a .end - l .loop .left) 255 (λ s. getD (a .status .now) s 0) (record { «open» = l .loop .«open»; unknown = l .loop .unknown; live = l .loop .live; dead = l .loop .dead }) (omega arith) (omega arith) (l .loop .inv .1) .deads) }
+    record { fits = omega (arith, all-few c .deads) }
 
 returns : tie.Need-returns Inv-loop μ-loop
 returns c =

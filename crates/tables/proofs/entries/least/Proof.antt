@@ -1,8 +1,8 @@
 -- `least` meets its contract.
 -- Assumes nothing.
 use borrow.Author.Tests.{le-leb, lt-leb}
-use Rattle.report.proofs.lister.least.Statement.{statement}
-use Rattle.report.proofs.lister.least.Tie as tie
+use Rattle.tables.proofs.entries.least.Statement.{statement}
+use Rattle.tables.proofs.entries.least.Tie as tie
 
 returns : tie.Need-returns
 returns c = rw (le-leb _ _ (c .if1 .taken))
