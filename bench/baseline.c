@@ -128,6 +128,23 @@ static int is_repeat(const Engine *e, size_t u, size_t v, size_t key)
     return found_soon(e, u, v, key) || find_step(e, u, v, key) > 0;
 }
 
+// ---- the visited marks: that of the state s is bit s % 16 of the entry s / 16
+
+static int is_visited(const Engine *e, size_t s)
+{
+    return e->visited[s / 16] >> s % 16 & 1;
+}
+
+static void set_visited(const Engine *e, size_t s)
+{
+    e->visited[s / 16] |= (uint16_t)(1u << s % 16);
+}
+
+static void clear_visited(const Engine *e, size_t s)
+{
+    e->visited[s / 16] &= (uint16_t)~(1u << s % 16);
+}
+
 // ---- the closure along steps backwards
 
 static int allowed(const Engine *e, Mode mode, size_t y, size_t p)
@@ -138,7 +155,7 @@ static int allowed(const Engine *e, Mode mode, size_t y, size_t p)
 
 static Span admit(const Engine *e, Span span, size_t y)
 {
-    e->visited[y] = 1;
+    set_visited(e, y);
     e->queue[span.len] = (uint16_t)y;
     return (Span){span.len + 1, y < span.low ? y : span.low, y > span.high ? y : span.high};
 }
@@ -147,7 +164,7 @@ static Span offer_sources(const Engine *e, Mode mode, size_t x, Span span)
 {
     for (size_t p = first_of(e->in_head, x, e->steps); p > 0; p = after(e->in_next, p)) {
         size_t y = e->from[p - 1];
-        if (y < e->n && !e->visited[y] && allowed(e, mode, y, p - 1)) span = admit(e, span, y);
+        if (y < e->n && !is_visited(e, y) && allowed(e, mode, y, p - 1)) span = admit(e, span, y);
     }
     return span;
 }
@@ -164,8 +181,8 @@ static size_t settle(const Engine *e, Span span, uint8_t verdict)
 {
     size_t count = 0;
     for (size_t s = span.low; s <= span.high; s++) {
-        if (!e->visited[s]) continue;
-        e->visited[s] = 0;
+        if (!is_visited(e, s)) continue;
+        clear_visited(e, s);
         e->status[s] = verdict;
         e->successor[s] = NO_SUCCESSOR;
         e->news[count++] = (uint16_t)s;
@@ -206,7 +223,7 @@ static size_t near_escape(const Engine *e, size_t u)
 
 static int leads_out(const Engine *e, size_t y)
 {
-    return y < e->n && !e->visited[y] && (e->status[y] == OPEN || e->status[y] == UNKNOWN);
+    return y < e->n && !is_visited(e, y) && (e->status[y] == OPEN || e->status[y] == UNKNOWN);
 }
 
 static size_t way_out(const Engine *e, size_t x)
@@ -219,7 +236,7 @@ static size_t way_out(const Engine *e, size_t x)
 static size_t release(const Engine *e, size_t x, size_t p, size_t released)
 {
     e->successor[x] = (uint16_t)p;
-    e->visited[x] = 0;
+    clear_visited(e, x);
     e->queue[released] = (uint16_t)x;
     return released + 1;
 }
@@ -229,7 +246,7 @@ static size_t escapes(const Engine *e, size_t len)
 {
     size_t released = 0;
     for (size_t at = 0; at < len; at++) {
-        size_t x = e->queue[at], p = e->visited[x] ? way_out(e, x) : 0;
+        size_t x = e->queue[at], p = is_visited(e, x) ? way_out(e, x) : 0;
         if (p > 0) released = release(e, x, p - 1, released);
     }
     return released;
@@ -241,7 +258,7 @@ static size_t rescue(const Engine *e, size_t released)
     for (size_t at = 0; at < released; at++)
         for (size_t p = first_of(e->in_head, e->queue[at], e->steps); p > 0; p = after(e->in_next, p)) {
             size_t y = e->from[p - 1];
-            if (y < e->n && e->visited[y]) released = release(e, y, p - 1, released);
+            if (y < e->n && is_visited(e, y)) released = release(e, y, p - 1, released);
         }
     return released;
 }
@@ -330,7 +347,7 @@ __attribute__((flatten)) uint32_t baseline_update(PARAMETERS)
     if (n == 0 || n > MAX_STATES) return REFUSED + 1;
     if (limit == 0 || limit > MAX_STEPS) return REFUSED + 2;
     if (status_len < n || marks_len < n || successor_len < n || news_len < n) return REFUSED + 3;
-    if (in_head_len < n || out_head_len < n || queue_len < n || visited_len < n) return REFUSED + 3;
+    if (in_head_len < n || out_head_len < n || queue_len < n || visited_len < (n + 15) / 16) return REFUSED + 3;
     if (from_len < limit || to_len < limit || key_len < limit || in_next_len < limit || out_next_len < limit) return REFUSED + 3;
     if (*steps > limit) return REFUSED + 4;
     if (kind != 'E' && kind != 'T' && kind != 'C') return REFUSED + 11;

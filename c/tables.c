@@ -4,8 +4,11 @@
 
 #include <string.h>
 
-/* How many of the tables have an entry for each state, and for each step of the limit: a byte, or one of 16 bits. */
-enum { STATE_BYTES = 2, STEP_BYTES = 1, STATE_ENTRIES = 6, STEP_ENTRIES = 4 };
+/* How many of the tables have an entry for each state, and for each step of the limit: a byte, or one of 16 bits. Besides them, the visited
+   marks have a bit for each state. */
+enum { STATE_BYTES = 2, STEP_BYTES = 1, STATE_ENTRIES = 5, STEP_ENTRIES = 4 };
+
+static size_t visited_entries(size_t n) { return n / 16 + (n % 16 > 0); }
 
 static int states_in_bounds(uint32_t n) { return n >= 1 && n <= RADVOINIS_MAX_STATES; }
 static int limit_in_bounds(uint32_t limit) { return limit >= 1 && limit <= RADVOINIS_MAX_STEPS; }
@@ -15,7 +18,7 @@ size_t radvoinis_tables_size(uint32_t n, uint32_t limit)
 {
     if (!states_in_bounds(n) || !limit_in_bounds(limit)) return 0;
     return (size_t)n * STATE_BYTES + (size_t)limit * STEP_BYTES +
-           ((size_t)n * STATE_ENTRIES + (size_t)limit * STEP_ENTRIES) * sizeof(uint16_t) + 1;
+           ((size_t)n * STATE_ENTRIES + visited_entries(n) + (size_t)limit * STEP_ENTRIES) * sizeof(uint16_t) + 1;
 }
 
 /* The next `count` entries of the memory that is laid out. */
@@ -44,7 +47,7 @@ uint32_t radvoinis_tables_fresh(radvoinis_tables *t, void *memory, size_t size, 
     t->successor = take(&at, n);
     t->news = take(&at, n);
     t->queue = take(&at, n);
-    t->visited = take(&at, n);
+    t->visited = take(&at, visited_entries(n));
     t->status = (uint8_t *)at;
     t->marks = t->status + n;
     t->key = t->marks + n;
@@ -57,7 +60,7 @@ static uint32_t send(radvoinis_tables *t, uint8_t kind, uint32_t first, uint32_t
 {
     return radvoinis_update(t->n, t->limit, &t->steps, kind, first, second, by_key, t->status, t->n, t->marks, t->n, t->from, t->limit,
                             t->to, t->limit, t->key, t->limit, t->successor, t->n, t->news, t->n, t->in_head, t->n, t->out_head, t->n,
-                            t->queue, t->n, t->visited, t->n, t->in_next, t->limit, t->out_next, t->limit);
+                            t->queue, t->n, t->visited, visited_entries(t->n), t->in_next, t->limit, t->out_next, t->limit);
 }
 
 uint32_t radvoinis_step(radvoinis_tables *t, uint32_t from, uint32_t to) { return send(t, 'E', from, to, 0); }
@@ -73,8 +76,8 @@ uint32_t radvoinis_status_of(const radvoinis_tables *t, uint32_t state)
 uint32_t radvoinis_check(radvoinis_tables *t)
 {
     return radvoinis_audit(t->n, t->limit, t->steps, t->status, t->n, t->marks, t->n, t->from, t->limit, t->to, t->limit, t->key,
-                           t->limit, t->successor, t->n, t->in_head, t->n, t->out_head, t->n, t->queue, t->n, t->visited, t->n,
-                           t->in_next, t->limit, t->out_next, t->limit);
+                           t->limit, t->successor, t->n, t->in_head, t->n, t->out_head, t->n, t->queue, t->n, t->visited,
+                           visited_entries(t->n), t->in_next, t->limit, t->out_next, t->limit);
 }
 
 uint32_t radvoinis_save(const radvoinis_tables *t, uint8_t *buf, size_t len, size_t *at)

@@ -7,9 +7,9 @@
 
    What a caller must see to, since no call can:
    - Pointers. Each table is readable, and writable where it is not const, over the length that is lent with it (in a radvoinis_tables:
-     n entries, or limit entries for from, to, key, in_next and out_next). No pointer is NULL, also where its length is 0 (the memory
-     handed to radvoinis_tables_fresh may be). Tables of 16-bit entries, and the size_t of *steps and *at, are aligned as their type
-     asks; bytes may stand anywhere.
+     limit entries for from, to, key, in_next and out_next, n/16, rounded up, for visited, n for the others). No pointer is NULL, also
+     where its length is 0 (the memory handed to radvoinis_tables_fresh may be). Tables of 16-bit entries, and the size_t of *steps and
+     *at, are aligned as their type asks; bytes may stand anywhere.
    - Tables do not overlap: no two of one call, and none with *steps, *at or the buffer. Two that are const may.
    - n and limit of a radvoinis_tables stay what they were when it was laid out.
    Everything else is tested: any numbers, lengths and table contents get an answer or the number of a refusal, a refused call changes
@@ -110,7 +110,7 @@ typedef struct radvoinis_tables {
     uint16_t *in_head;   /* n; this and what follows is the engine's own */
     uint16_t *out_head;  /* n */
     uint16_t *queue;     /* n */
-    uint16_t *visited;   /* n */
+    uint16_t *visited;   /* n/16, rounded up: a bit for each state */
     uint16_t *in_next;   /* limit */
     uint16_t *out_next;  /* limit */
 } radvoinis_tables;
@@ -158,8 +158,8 @@ uint8_t radvoinis_status(const uint8_t *record, size_t record_len, uint32_t stat
    tested behind 1 to 4), and changes nothing. A close of a closed state answers 0 and changes nothing either, whatever the tables hold.
    A step that is equal to one of the *steps listed answers 0, also where the list is full, and names its two states: where the tables
    fit, they are named, and nothing changes.
-   Needed lengths: n for status, marks, successor, news, in_head, out_head, queue, visited; limit for from, to, key, in_next, out_next.
-   Fresh tables are all zero, with 65,535 in every successor entry; *steps is 0. */
+   Needed lengths: n for status, marks, successor, news, in_head, out_head, queue; n/16, rounded up, for visited; limit for from, to,
+   key, in_next, out_next. Fresh tables are all zero, with 65,535 in every successor entry; *steps is 0. */
 uint32_t radvoinis_update(size_t n, size_t limit, size_t *steps, uint8_t kind, size_t first, size_t second, size_t by_key,
                           uint8_t *status, size_t status_len, uint8_t *marks, size_t marks_len,
                           uint16_t *from, size_t from_len, uint16_t *to, size_t to_len, uint8_t *key, size_t key_len,
@@ -175,8 +175,8 @@ uint32_t radvoinis_state_status(size_t n, size_t limit, size_t steps, const uint
 size_t radvoinis_news_len(const uint16_t *news, size_t news_len, size_t count);
 
 /* The table check: 1 where the tables fit (some legal history gives them, so that no two listed steps are equal, and the work tables
-   fit), 0 where they do not; or RADVOINIS_REFUSED plus the number of the refusal (1 to 4), and changes nothing. It writes queue and
-   visited alone, below n; after a 1 no state is marked visited. */
+   fit), 0 where they do not; or RADVOINIS_REFUSED plus the number of the refusal (1 to 4), and changes nothing. It writes the needed
+   entries of queue and visited alone; after a 1 no state is marked visited. */
 uint32_t radvoinis_audit(size_t n, size_t limit, size_t steps,
                          const uint8_t *status, size_t status_len, const uint8_t *marks, size_t marks_len,
                          const uint16_t *from, size_t from_len, const uint16_t *to, size_t to_len, const uint8_t *key, size_t key_len,

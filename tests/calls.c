@@ -27,13 +27,14 @@ uint32_t radvoinis_audit(size_t n, size_t limit, size_t steps, const uint8_t *st
                          size_t visited_len, const uint16_t *in_next, size_t in_next_len, const uint16_t *out_next, size_t out_next_len)
 {
     int by_state = status_len >= n && marks_len >= n && successor_len >= n && in_head_len >= n && out_head_len >= n && queue_len >= n &&
-                   visited_len >= n;
+                   visited_len >= n / 16 + (n % 16 > 0);
     int by_step = from_len >= limit && to_len >= limit && key_len >= limit && in_next_len >= limit && out_next_len >= limit;
     int number = reference_lent(n, limit, steps, by_state && by_step);
     if (number) return RADVOINIS_REFUSED + (uint32_t)number;
     Tables t = {n, steps, status, marks, key, from, to, successor, in_head, out_head, visited, in_next, out_next};
     uint32_t yes = (uint32_t)fits(&t);
-    for (size_t s = 0; s < n; s++) queue[s] = (uint16_t)s, visited[s] = yes ? 0 : 1;
+    for (size_t s = 0; s < n; s++) queue[s] = (uint16_t)s;
+    for (size_t i = 0; i < (n + 15) / 16; i++) visited[i] = yes ? 0 : 0xffff;
     return yes;
 }
 

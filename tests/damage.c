@@ -19,6 +19,7 @@ typedef enum {
     CHECK_WRITTEN_FITS,
     CHECK_KEYS,
     CHECK_COPIES,
+    CHECK_VISITED,
     CHECK_DEFINITION,
     CHECKS
 } Check;
@@ -27,11 +28,12 @@ static const char *const check_names[CHECKS] = {
     "yes, no or refused, as the definition has it",
     "tables of a run fit",
     "nothing changed on a refusal",
-    "all but the queue kept after a yes, all but queue and visited after a no, past n and around the tables too",
+    "all but the queue and bits that are no state's kept after a yes, all but queue and visited after a no, past them and around the tables too",
     "a run with checks in between: same answers, news and tables",
     "tables written for a history fit",
     "a listed key above 31 is found, a key behind the list is not looked at",
     "two equal steps are found; steps that are equal but for one of from, to and key fit",
+    "a state's visited mark is found, a bit behind those of the states is not looked at",
     "the definition is what every short history gives",
 };
 
@@ -64,6 +66,14 @@ static uint32_t right_answer(const Lent *l)
     return (uint32_t)fits(&t);
 }
 
+// In the copy of visited, the bits behind those of the states as they are now.
+static void expect_spare_free(Lent *l)
+{
+    Table *t = &l->table[VISITED];
+    size_t last = lent_needed(l, VISITED) - 1, spare = lent_spare_bits(l);
+    table_expect(t, last, (table_was(t, last) & ~spare) | (table_get(t, last) & spare));
+}
+
 // One check of the tables, held to the definition and to what it may write. Answers whether they fit.
 static int fit(Lent *l)
 {
@@ -78,7 +88,8 @@ static int fit(Lent *l)
     }
     answers[right]++;
     table_expect_free(&l->table[QUEUE], 0, l->n);
-    if (!right) table_expect_free(&l->table[VISITED], 0, l->n);
+    if (right) expect_spare_free(l);
+    else table_expect_free(&l->table[VISITED], 0, lent_needed(l, VISITED));
     check(CHECK_KEPT, lent_unchanged(l));
     return (int)right;
 }
@@ -181,19 +192,28 @@ static void put(Lent *l, Name k, size_t i, size_t x) { table_set(&l->table[k], i
 
 static void group_one_state(void)
 {
-    static const size_t successors[] = {0, 1, 65535}, keys[] = {MOST_KEY, MOST_KEY + 1, 255};
+    static const size_t successors[] = {0, 1, 65535}, keys[] = {MOST_KEY, MOST_KEY + 1, 255}, visits[] = {0, 1, 65534};
     shown_history = NULL;
     lent_size(&lent_a, 1, 1, 0);
-    for (size_t i = 0; i < 6 * 9 * 2 * 2 * 2 * 3 * 81 * 2 * 3 && !failed; i++) {
+    for (size_t i = 0; i < 6 * 9 * 2 * 2 * 2 * 3 * 81 * 3 * 3 && !failed; i++) {
         size_t k = i;
         put(&lent_a, STATUS, 0, digit(&k, 6)), put(&lent_a, MARKS, 0, digit(&k, 9));
         put(&lent_a, FROM, 0, digit(&k, 2)), put(&lent_a, TO, 0, digit(&k, 2)), lent_a.steps[1] = digit(&k, 2);
         put(&lent_a, SUCCESSOR, 0, successors[digit(&k, 3)]);
         put(&lent_a, IN_HEAD, 0, digit(&k, 3)), put(&lent_a, OUT_HEAD, 0, digit(&k, 3));
         put(&lent_a, IN_NEXT, 0, digit(&k, 3)), put(&lent_a, OUT_NEXT, 0, digit(&k, 3));
-        put(&lent_a, VISITED, 0, digit(&k, 2)), put(&lent_a, KEY, 0, keys[digit(&k, 3)]);
+        put(&lent_a, VISITED, 0, visits[digit(&k, 3)]), put(&lent_a, KEY, 0, keys[digit(&k, 3)]);
         fit(&lent_a);
     }
+}
+
+// The bits of visited that are no state's may hold anything.
+static void scramble_spare(Lent *l) { words(l, VISITED)[lent_needed(l, VISITED) - 1] ^= (uint16_t)(random_word() & lent_spare_bits(l)); }
+
+static void clear_visited(Lent *l)
+{
+    memset(words(l, VISITED), 0, 2 * lent_needed(l, VISITED));
+    if (one_in(2)) scramble_spare(l);
 }
 
 // The lists of the steps that are listed, and no state visited.
@@ -212,7 +232,7 @@ static void write_work(Lent *l)
 {
     write_list(l, TO, IN_HEAD, IN_NEXT);
     write_list(l, FROM, OUT_HEAD, OUT_NEXT);
-    memset(words(l, VISITED), 0, 2 * l->n);
+    clear_visited(l);
 }
 
 // The statuses are those that are given, the rest is every choice.
@@ -257,6 +277,10 @@ static void send_and_check(Run *r, Update u)
 
 static Run checked = {.lent = &lent_a, .send = send_and_check};
 
+static void send_alone(Run *r, Update u) { run_update(r, u); }
+
+static Run unchecked = {.lent = &lent_a, .send = send_alone};
+
 static void group_lists(void)
 {
     every_keyed_list(&checked, 2, 2, by_scale(3, 3, 4), 2);
@@ -273,6 +297,7 @@ static int alone_started;
 static void scramble_free(Lent *l)
 {
     for (size_t s = 0; s < l->n; s++) words(l, QUEUE)[s] = (uint16_t)random_word();
+    scramble_spare(l);
     for (size_t p = l->steps[1]; p < l->limit; p++) {
         words(l, IN_NEXT)[p] = (uint16_t)random_word(), words(l, OUT_NEXT)[p] = (uint16_t)random_word();
         words(l, FROM)[p] = (uint16_t)random_word(), words(l, TO)[p] = (uint16_t)random_word(), bytes(l, KEY)[p] = (uint8_t)random_word();
@@ -332,7 +357,7 @@ static void damage_entry(Lent *l, Name k, size_t i, size_t x)
     put(l, k, i, x);
     if (table_get(&l->table[k], i) != was) fit(l) ? still_fit++ : fit_no_more++;
     put(l, k, i, was);
-    memset(words(l, VISITED), 0, 2 * l->n);
+    clear_visited(l);
 }
 
 static void damage_table(Lent *l, Name k, size_t values)
@@ -395,7 +420,7 @@ static void damage_key(Lent *l, size_t p)
     for (size_t k = 0; k < 2; k++) {
         put(l, KEY, p, k ? above[i] : some_key());
         check(CHECK_KEYS, fit(l) == (p >= l->steps[1] || (k == 0 && !is_copy(l, p))));
-        memset(words(l, VISITED), 0, 2 * l->n);
+        clear_visited(l);
     }
     put(l, KEY, p, was);
 }
@@ -422,6 +447,33 @@ static void group_keys(void)
     for (size_t i = 0; i < rounds(6) && !failed; i++) large_run(&keys_damaged, i, 2048 - below(1000), 8192 - below(3));
 }
 
+// ---- visited marks
+
+// Each bit of the needed entries by itself, and all of those that are no state's.
+static void damage_visited(Lent *l)
+{
+    uint16_t *visited = words(l, VISITED), spare = lent_spare_bits(l);
+    size_t entries = lent_needed(l, VISITED);
+    for (size_t b = 0; b < 16 * entries && !failed; b++) {
+        memset(visited, 0, 2 * entries);
+        visited[b / 16] = (uint16_t)(1u << b % 16 | (one_in(2) ? spare : 0u));
+        check(CHECK_VISITED, fit(l) == (b >= l->n));
+    }
+    memset(visited, 0, 2 * entries);
+    visited[entries - 1] = spare;
+    check(CHECK_VISITED, fit(l) == 1);
+}
+
+static void group_visited(void)
+{
+    for (size_t i = 1; i <= 80 && !failed; i++) {
+        size_t n = i <= 50 ? i : around_full_entries(i <= 70 ? i : 16 * i);
+        progress(i, 80);
+        large_run(&unchecked, i, n < 2 ? 2 : n, n + 1 + below(n));
+        damage_visited(&lent_a);
+    }
+}
+
 // ---- random damages, of one entry or of some that belong together
 
 static size_t listed_step_out_of(const Lent *l, size_t s)
@@ -444,7 +496,7 @@ static size_t likely_entry(const Lent *l, Name k, size_t i)
     case KEY: return below(MOST_KEY + 3);
     case SUCCESSOR: return one_in(4) ? NO_SUCCESSOR : listed_step_out_of(l, i);
     case QUEUE: return below(l->n);
-    case VISITED: return below(2);
+    case VISITED: return words(l, VISITED)[i] ^ 1u << below(16);
     default: return below(l->steps[1] + 1);
     }
 }
@@ -797,6 +849,7 @@ static const Group groups[] = {
     {"every damage of one entry, after every short list", group_every_damage},
     {"every damage of one entry, random runs", group_every_damage_later},
     {"keys above 31, in the list and behind it", group_keys},
+    {"every bit of the visited marks, up to 50 states and around multiples of 16", group_visited},
     {"random damages, up to 12 states", group_damage_small},
     {"random damages, up to 2,048 states", group_damage_large},
     {"tables written for a history, mixed with another's", group_written},

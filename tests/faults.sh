@@ -96,7 +96,7 @@ few=1 fault "a ring is dead although a step leads out of it" 's/    rescue(e, es
 fault "no rescue of those behind an escape" 's/rescue(e, escapes(e, span.len))/escapes(e, span.len)/'
 fault "tries one step out of a state whose successor died" "$(within way_out 's/if (leads_out(e, e->to\[p - 1\])) return p;/return leads_out(e, e->to[p - 1]) ? p : 0;/')"
 fault "a way out to an unknown state does not count" "$(within leads_out 's/ || e->status\[y\] == UNKNOWN//')"
-fault "a way out among the visited counts" "$(within leads_out 's/!e->visited\[y\] \&\& //')"
+fault "a way out among the visited counts" "$(within leads_out 's/!is_visited(e, y) \&\& //')"
 fault "live does not spread to the predecessors" 's/spread(e, LIVE_SOURCES, u)/admit(e, (Span){0, u, u}, u)/'
 fault "live spreads to unknown predecessors alone" 's/return e->status\[y\] != LIVE;/return e->status[y] == UNKNOWN;/'
 fault "a step into a live state settles nothing" 's/return e->status\[v\] == LIVE ? make_live(e, u) : 0;/return 0;/'
@@ -122,8 +122,17 @@ fault "successor of a rescued state one too high" 's/release(e, y, p - 1, releas
 fault "successor kept in a byte" 's/e->successor\[u\] = (uint16_t)(p - 1);/e->successor[u] = (uint8_t)(p - 1);/'
 fault "queue kept in bytes" 's/e->queue\[span.len\] = (uint16_t)y;/e->queue[span.len] = (uint8_t)y;/'
 fault "places kept in twelve bits" 's/head\[v\] = (uint16_t)(p + 1);/head[v] = (p + 1) % 4096;/'
-fault "visited stays behind a verdict" "$(within settle 's/        e->visited\[s\] = 0;//')"
-fault "visited stays behind a release" "$(within release 's/    e->visited\[x\] = 0;//')"
+fault "visited stays behind a verdict" "$(within settle 's/        clear_visited(e, s);//')"
+fault "visited stays behind a release" "$(within release 's/    clear_visited(e, x);//')"
+few=1 fault "clearing a visited mark clears its whole entry" "$(within clear_visited 's/ &= .*;/ = 0;/')"
+fault "clearing a visited mark clears the next one too" "$(within clear_visited 's/~(1u/~(3u/')"
+fault "clearing a visited mark clears those before it too" "$(within clear_visited 's/~(1u << s % 16)/~((2u << s % 16) - 1)/')"
+fault "setting a visited mark clears the others of its entry" "$(within set_visited 's/ |= / = /')"
+fault "setting a visited mark sets the next one too" "$(within set_visited 's/(1u/(3u/')"
+fault "a visited mark is set where another is read" "$(within set_visited 's/s % 16)/15 - s % 16)/')"
+fault "two states have one visited mark" 's/1u << s % 16/1u << s % 8/; s/>> s % 16/>> s % 8/'
+fault "the first state of an entry has its visited mark in the one before" 's/e->visited\[s \/ 16\]/e->visited[(s > 0 ? s - 1 : 0) \/ 16]/'
+fault "the last, partly used entry is out of range" 's/e->visited\[s \/ 16\]/e->visited[s \/ 16 + (s \/ 16 == e->n \/ 16)]/'
 fault "a step into the wrong list" 's/push(e->in_head, e->in_next, v, p);/push(e->in_head, e->in_next, u, p);/'
 fault "a step out of the wrong list" 's/push(e->out_head, e->out_next, u, p);/push(e->out_head, e->out_next, v, p);/'
 fault "a step to itself is not listed" "$(within step 's/    size_t p = e->steps++;/    if (u == v) return name(e, u), 0; size_t p = e->steps++;/')"
@@ -189,13 +198,18 @@ fault "limit before n" 's/^    if (n == 0 .*/    if (limit == 0 || limit > MAX_S
 fault "steps in thirty-two bits" 's/if (\*steps > limit)/if ((uint32_t)*steps > limit)/'
 fault "as many steps as the limit are too many" 's/if (\*steps > limit)/if (*steps >= limit)/'
 fault "4 before 3" 's/^    if (status_len < n .*/    if (*steps > limit) return REFUSED + 4;\n&/'
-for table in status marks successor news in_head out_head queue visited; do
+for table in status marks successor news in_head out_head queue; do
     fault "$table too short by one" "s/${table}_len < n\b/${table}_len + 1 < n/"
 done
+fault "visited too short by one" 's/visited_len < (n/visited_len + 1 < (n/'
+few=1 fault "n/16 rounded down is enough" 's/visited_len < (n + 15)/visited_len < (n)/'
+fault "n/16 rounded to the nearest is enough" 's/visited_len < (n + 15)/visited_len < (n + 8)/'
+fault "an entry for each state is asked for" 's/visited_len < (n + 15) \/ 16/visited_len < n/'
+fault "an entry more is asked for where all are full" 's/visited_len < (n + 15)/visited_len < (n + 16)/'
 for table in from to key in_next out_next; do
     fault "$table too short by one" "s/\b${table}_len < limit/${table}_len + 1 < limit/"
 done
-fault "a table may not be just long enough" 's/visited_len < n/visited_len <= n/'
+fault "a table may not be just long enough" 's/queue_len < n/queue_len <= n/'
 fault "any other kind is a close" 's/^    if (kind != .E. .*//'
 fault "11 before 1" 's/^    if (n == 0 .*/    if (kind != 69 \&\& kind != 84 \&\& kind != 67) return REFUSED + 11;\n&/'
 fault "5 before 11" 's/^    if (kind != .E. .*/    if (kind != 69 \&\& kind != 84 \&\& kind != 67) return REFUSED + (first >= n ? 5 : 11);/'
@@ -258,7 +272,7 @@ fault "targets out of range are read" "$(within leads_out 's/y < e->n && //')"
 fault "successors lead out of range" "$(within meets_open 's/        if (s >= e->n) return 0;//')"
 fault "successors behind the list are followed" "$(within meets_open 's/        if (p >= e->steps) return 0;//')"
 fault "successors are followed without end" "$(within meets_open 's/ || left == 0//')"
-fault "states are queued twice" "$(within offer_sources 's/!e->visited\[y\] && //')"
+fault "states are queued twice" "$(within offer_sources 's/!is_visited(e, y) && //')"
 
 # the status question and the news length
 call_fault "the question takes n for a state" 's/state >= n/state > n/'
@@ -289,6 +303,11 @@ fitting_fault "the states' list entries are not looked at" 's/return memcmp(last
 fitting_fault "the steps' list entries are not looked at" 's/ || next\[p\] != last\[ends\[p\]\]//'
 fitting_fault "a free list entry does not fit" 's/    return memcmp(last, head, 2 \* t->n) == 0;/    if (next == t->in_next \&\& next[t->steps] > 8192) return 0;\n&/'
 fitting_fault "visited marks are not looked at" 's/ && fits_visited(t)//'
+fitting_fault "the last visited mark is not looked at" "$(within fits_visited 's/s < t->n/s + 1 < t->n/')"
+fitting_fault "visited marks in the last, partly used entry are not looked at" "$(within fits_visited 's/s < t->n/s < t->n \/ 16 * 16/')"
+few=1 fitting_fault "a bit behind the visited marks does not fit" "$(within fits_visited 's/s < t->n/s < (t->n + 15) \/ 16 * 16/')"
+fitting_fault "a visited mark is an entry" "$(within fits_visited 's/t->visited.*) return/s < (t->n + 15) \/ 16 \&\& t->visited[s]) return/')"
+fitting_fault "the first visited mark of an entry alone is looked at" "$(within fits_visited 's/1u << s % 16/1u/')"
 fitting_fault "a step to a state out of range fits" 's/t->from\[p\] >= t->n || t->to\[p\] >= t->n/t->from[p] >= t->n || t->to[p] > t->n/; s/if (ends\[p\] >= t->n || next/if (ends[p] >= t->n) continue; if (next/'
 fitting_fault "a step equal but for its key does not fit" "$(within steps_in_bounds 's/        if (t->from/        if ((p > 0 \&\& t->from[p] == t->from[p - 1] \&\& t->to[p] == t->to[p - 1] \&\& t->key[p] != t->key[p - 1]) || t->from/')"
 fitting_fault "two equal steps fit" 's/ || !no_two_equal(t)//'
@@ -314,7 +333,8 @@ fitting_fault "a key behind the list is looked at" "$(within fits_history 's/^  
 fitting_fault "a key above 127 fits" 's/t->key\[p\] > MOST_KEY/(int8_t)t->key[p] > MOST_KEY/'
 
 # the table check: what it writes and refuses
-few=1 call_fault "a yes leaves a state visited" "$(within radvoinis_audit 's/visited\[s\] = yes ? 0 : 1/visited[s] = s > 0/')" damage
+few=1 call_fault "a yes leaves a state visited" "$(within radvoinis_audit 's/visited\[i\] = yes ? 0 : 0xffff/visited[i] = yes ? (uint16_t)(1u << (n - 1) % 16) : 0xffff/')" damage
+call_fault "visited is written past the needed entries" "$(within radvoinis_audit 's/    return yes;/    if (visited_len > (n + 15) \/ 16) visited[(n + 15) \/ 16] = 0;\n&/')" damage
 call_fault "a no writes a mark" "$(within radvoinis_audit 's/    return yes;/    if (!yes) ((uint8_t *)marks)[0] |= 1;\n&/')" damage
 call_fault "a yes clears a free list entry" "$(within radvoinis_audit 's/    return yes;/    if (yes \&\& steps < limit) ((uint16_t *)in_next)[steps] = 0;\n&/')" damage
 call_fault "the queue is written past n" "$(within radvoinis_audit 's/    return yes;/    if (queue_len > n) queue[n] = 0;\n&/')" damage
@@ -323,6 +343,7 @@ call_fault "4 before 3" "$(within radvoinis_audit 's/by_state && by_step)/(by_st
 for table in status marks successor in_head out_head queue visited; do
     call_fault "the check's $table too short by one" "$(within radvoinis_audit "s/${table}_len >= n\b/${table}_len + 1 >= n/")" damage
 done
+call_fault "the check takes n/16 rounded down" "$(within radvoinis_audit 's/ + (n % 16 > 0)//')" damage
 for table in from to key in_next out_next; do
     call_fault "the check's $table too short by one" "$(within radvoinis_audit "s/\b${table}_len >= limit/${table}_len + 1 >= limit/")" damage
 done
@@ -582,7 +603,10 @@ short_fault "NULL is taken" "$(within radvoinis_tables_fresh 's/memory == NULL |
 short_fault "a refusal changes the struct" "$(within radvoinis_tables_fresh 's/^    if (memory == NULL/    t->steps = 0;\n&/')"
 short_fault "an odd address is taken as it is" 's/ + (uintptr_t)memory % sizeof(uint16_t)//'
 few=1 short_fault "two tables in one place" 's/t->to = take(&at, limit)/t->to = t->from, take(\&at, limit)/'
-short_fault "a table past the memory" 's/t->visited = take(&at, n)/t->visited = take(\&at, 2 * (size_t)n)/'
+short_fault "a table past the memory" 's/t->visited = take(&at, visited_entries(n))/t->visited = take(\&at, n)/'
+short_fault "the visited marks of n/16 states, rounded down" "$(within visited_entries 's/ + (n % 16 > 0)//')"
+short_fault "the visited marks lent with an entry too few" "$(within send 's/visited_entries(t->n)/visited_entries(t->n - 1)/')"
+short_fault "the visited marks checked with an entry too few" "$(within radvoinis_check 's/visited_entries(t->n)/visited_entries(t->n - 1)/')"
 short_fault "a limit's table for each state" 's/t->out_next = take(&at, limit)/t->out_next = take(\&at, n)/'
 short_fault "the steps are not begun anew" 's/    t->steps = 0;//'
 short_fault "visited marks are left" "$(within radvoinis_tables_fresh 's/^    return 0;/    t->visited[0] = 1;\n&/')"

@@ -112,10 +112,11 @@ int fits_lists(const Tables *t)
     return list_fits(t, t->to, t->in_head, t->in_next) && list_fits(t, t->from, t->out_head, t->out_next);
 }
 
+// A bit for each state; what stands in the last entry behind them is free.
 int fits_visited(const Tables *t)
 {
     for (size_t s = 0; s < t->n; s++)
-        if (t->visited[s]) return 0;
+        if (t->visited[s / 16] & 1u << s % 16) return 0;
     return 1;
 }
 

@@ -528,6 +528,18 @@ static void group_pruned_random(void)
     }
 }
 
+// ---- visited marks in full entries, and in entries that are not full
+
+static void group_around_full_entries(void)
+{
+    for (size_t i = 0; i < rounds(400) && !failed; i++) {
+        size_t n = around_full_entries(i), limit = n + below(3 * n);
+        progress(i, rounds(400));
+        if (i % 4 == 3) pruned_run(n, limit, 3 * n);
+        else large_run(&full, i / 4, n, limit < MOST_STEPS ? limit : MOST_STEPS);
+    }
+}
+
 // ---- tables with any contents and of any length
 
 static void wild_calls(Lent *l, size_t calls)
@@ -824,6 +836,7 @@ static const Group groups[] = {
     {"random graphs, read state by state", group_graphs},
     {"pruned runs, every short list and every choice", group_pruned_every},
     {"pruned runs, random", group_pruned_random},
+    {"runs and pruned runs, 16 states and multiples of it, one less and one more", group_around_full_entries},
     {"steps that come again, many out of one state", group_repeated_runs},
     {"listed and not: at the edges of lists of up to 8,192 steps, work tables of any contents", group_listed},
     {"listed and not: every place of short lists, work tables of any contents", group_listed_short},

@@ -20,7 +20,13 @@ void lent_make(Lent *l)
 
 void lent_place(Lent *l, Name k, size_t length, Side side) { table_place(&l->table[k], length, side); }
 
-size_t lent_needed(const Lent *l, Name k) { return by_step(k) ? l->limit : l->n; }
+size_t lent_needed(const Lent *l, Name k)
+{
+    if (k == VISITED) return l->n / 16 + (l->n % 16 > 0);
+    return by_step(k) ? l->limit : l->n;
+}
+
+uint16_t lent_spare_bits(const Lent *l) { return l->n % 16 ? (uint16_t)(0xffffu << l->n % 16) : 0; }
 
 void lent_size(Lent *l, size_t n, size_t limit, size_t extra)
 {

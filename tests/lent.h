@@ -34,9 +34,13 @@ void lent_list(Lent *l, size_t p, Update u);
 // The tables to be read, where they are long enough.
 Tables lent_tables(const Lent *l);
 
-// The bytes of a table's entry; and the entries that it must have: one for each state, or one for each step of the limit.
+// The bytes of a table's entry; and the entries that it must have: one for each state, or one for each step of the limit; of visited marks,
+// a bit for each state.
 size_t lent_width(Name k);
 size_t lent_needed(const Lent *l, Name k);
+
+// The bits of the last entry of visited that are no state's: as many as there are.
+uint16_t lent_spare_bits(const Lent *l);
 
 // Whether the tables that a call is lent are long enough; a set of tables has the bit 1 << k for table k.
 enum { ALL_TABLES = (1 << TABLES) - 1 };

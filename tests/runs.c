@@ -270,6 +270,12 @@ void large_run(Run *r, size_t i, size_t n, size_t limit)
     else graph_run(r, n, limit);
 }
 
+size_t around_full_entries(size_t i)
+{
+    size_t full = 16 * (1 + below(i % 16 ? 8 : MOST_STATES / 16));
+    return i % 3 == 0 ? full : i % 3 == 1 || full == MOST_STATES ? full - 1 : full + 1;
+}
+
 // Four steps out of each state, by keys that differ, so that the list has 8,192.
 void full_list_run(Run *r, size_t near)
 {

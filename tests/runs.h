@@ -69,6 +69,9 @@ void graph_run(Run *r, size_t n, size_t limit);
 void small_run(Run *r, size_t i);
 void large_run(Run *r, size_t i, size_t n, size_t limit);
 
+// A number of states, up to 2,048, whose visited marks just fill their entries, one less or one more, by turns.
+size_t around_full_entries(size_t i);
+
 // As many states and listed steps as there can be; then, from open states and closed ones, steps that come again and others, and a verdict
 // for each state.
 void full_list_run(Run *r, size_t near);

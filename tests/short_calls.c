@@ -174,7 +174,7 @@ static void group_sizes(void)
     shown_lent = NULL;
     for (size_t i = 0; i < EDGES * EDGES && !failed; i++) {
         uint32_t n = edge32(i / EDGES), limit = edge32(i % EDGES);
-        size_t size = size_of(n, limit), needed = (size_t)n * 14 + (size_t)limit * 9;
+        size_t size = size_of(n, limit), needed = (size_t)n * 12 + ((size_t)n + 15) / 16 * 2 + (size_t)limit * 9;
         check(CHECK_SIZE, bounded(n, limit) ? size >= needed && size <= needed + 64 : size == 0);
     }
     check(CHECK_SIZE, size_of(MOST_STATES, MOST_STEPS) <= memory.area_bytes - 64);
@@ -276,7 +276,8 @@ static void audit_beside(int in_bounds)
     uint32_t want = radvoinis_audit(raw->n, raw->limit, raw->steps[1], bytes(raw, STATUS), raw->n, bytes(raw, MARKS), raw->n, words(raw, FROM),
                                     raw->limit, words(raw, TO), raw->limit, bytes(raw, KEY), raw->limit, words(raw, SUCCESSOR), raw->n,
                                     words(raw, IN_HEAD), raw->n, words(raw, OUT_HEAD), raw->n, words(raw, QUEUE), raw->n,
-                                    words(raw, VISITED), raw->n, words(raw, IN_NEXT), raw->limit, words(raw, OUT_NEXT), raw->limit);
+                                    words(raw, VISITED), lent_needed(raw, VISITED), words(raw, IN_NEXT), raw->limit, words(raw, OUT_NEXT),
+                                    raw->limit);
     call_begin();
     uint32_t answer = radvoinis_check(&held.t);
     call_end();

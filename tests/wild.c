@@ -17,7 +17,7 @@ void wild_size(Lent *l, size_t extra)
 
 void wild_lengths(Lent *l)
 {
-    size_t n = 1 + below(12), limit = 1 + below(24), few = one_in(2) ? 1 : 3;
+    size_t n = 1 + below(one_in(2) ? 12 : 50), limit = 1 + below(24), few = one_in(2) ? 1 : 3;
     lent_size(l, n, limit, 4);
     for (size_t i = below(few + 1); i > 0; i--) {
         Name k = (Name)below(TABLES);
@@ -120,9 +120,9 @@ void each_value(Lent *l, size_t n, size_t limit, void (*call)(Lent *l))
 
 void each_refusal(Lent *l, void (*shortened)(Lent *l), void (*valued)(Lent *l))
 {
-    static const size_t sizes[5][2] = {{1, 1}, {2, 3}, {7, 5}, {2047, 8191}, {2048, 8192}};
+    static const size_t sizes[][2] = {{1, 1}, {2, 3}, {7, 5}, {15, 2}, {16, 2}, {17, 2}, {32, 9}, {33, 9}, {2032, 9}, {2033, 9}, {2047, 8191}, {2048, 8192}};
     shown_history = NULL;
-    for (size_t i = 0; i < 5; i++) each_short(l, sizes[i][0], sizes[i][1], shortened);
+    for (size_t i = 0; i < sizeof sizes / sizeof *sizes; i++) each_short(l, sizes[i][0], sizes[i][1], shortened);
     each_value(l, 8, 8, valued);
     each_value(l, 2048, 8192, valued);
 }

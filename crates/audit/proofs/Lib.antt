@@ -5,7 +5,6 @@ pub mod Founding
 pub mod Meeting
 pub mod Looping
 pub mod Chaining
-pub mod BitLaws
 pub mod Differing
 pub mod Gathering
 pub mod Judging

@@ -18,7 +18,7 @@ use Rattle.search.specs.declared.spread.Span.{Span}
 use Rattle.search.specs.Spreading.{Before, Queued}
 use Rattle.search.specs.Offering.{Admitted}
 use Rattle.audit.specs.Facts.{Passes, Backs, TableFacts}
-use Rattle.audit.specs.Bits.{hasBit, withBit}
+use Rattle.tables.specs.Bits.{hasBit, withBit}
 
 -- The ends of the first m steps are states.
 abbrev pub Below : ℕ → ℕ → List ℕ → Type 0

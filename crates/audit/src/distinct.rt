@@ -6,12 +6,12 @@ ghost use Rattle.tables.specs.Fitting.{AllBelow};
 ghost use Rattle.tables.specs.Keeping.{Kept};
 ghost use Rattle.search.specs.Spreading.{chains, into, Walkable};
 ghost use Rattle.audit.specs.Parts.{Below, Apart, ApartAll, ApartKeys, FromSources, Noted, SourcesNoted, Differ};
-use super::bits::has_bit;
-use super::bits::with_bit;
 use adjacency::after;
 use adjacency::first;
 use tables::fill;
+use tables::has_bit;
 use tables::wide;
+use tables::with_bit;
 
 // The ranges start here.
 const LOW: u8 = 0;

@@ -5,7 +5,6 @@ ghost use Rattle.tables.specs.Tables.{tablesOf};
 ghost use Rattle.audit.specs.Audited.{Audited};
 
 mod answer;
-mod bits;
 mod claims;
 mod distinct;
 mod judge;

@@ -3,6 +3,7 @@ ghost use mathlib.Core.Path.{_≡_};
 ghost use Rattle.query.specs.Answering.{answerOf};
 use reader::RECORD_LIMIT;
 use tables::MAX_STATES;
+use tables::MAX_VISITED;
 
 // The status of a state after a record, 0 to 4, or 16 plus the number of the first refused line. "A state of 2,048 or more counts as refusal 5 and is tested first."
 #[no_mangle]
@@ -19,7 +20,7 @@ pub extern "C" fn radvoinis_status(bytes: &[u8], state: u32) -> u8
     let mut in_head = [0u16; MAX_STATES];
     let mut out_head = [0u16; MAX_STATES];
     let mut queue = [0u16; MAX_STATES];
-    let mut visited = [0u16; MAX_STATES];
+    let mut visited = [0u16; MAX_VISITED];
     let mut in_next = [0u16; RECORD_LIMIT];
     let mut out_next = [0u16; RECORD_LIMIT];
     query::status_after(

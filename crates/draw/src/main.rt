@@ -14,6 +14,7 @@ use picture::PICTURE_ROOM;
 use reader::RECORD_LIMIT;
 use streams::Served;
 use tables::MAX_STATES;
+use tables::MAX_VISITED;
 
 // The bytes of the input that are read at once.
 const INPUT: usize = 65536;
@@ -50,7 +51,7 @@ fn draw_record() {
     let mut in_head = [0u16; MAX_STATES];
     let mut out_head = [0u16; MAX_STATES];
     let mut queue = [0u16; MAX_STATES];
-    let mut visited = [0u16; MAX_STATES];
+    let mut visited = [0u16; MAX_VISITED];
     let mut in_next = [0u16; RECORD_LIMIT];
     let mut out_next = [0u16; RECORD_LIMIT];
     let mut input = [0u8; INPUT];

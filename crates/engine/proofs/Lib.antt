@@ -15,3 +15,4 @@ pub mod Running
 pub mod Twins
 pub mod Demands
 pub mod Replay
+pub mod Earlier

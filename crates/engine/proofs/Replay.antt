@@ -16,18 +16,19 @@ use Rattle.gid.specs.News.{news}
 use Rattle.gid.specs.Refusals.{Rule, first, lent, sent, refusal, maxKey}
 use Rattle.gid.specs.Outcomes.{accepted, byNumber, givenAfter, outcome, after}
 use Rattle.tables.specs.declared.Graph.{Graph}
-use Rattle.tables.specs.Tables.{Tables, longEnough}
+use Rattle.tables.specs.Tables.{Tables, longEnoughBy}
 use Rattle.tables.specs.Marks.{hasClosed}
 use Rattle.tables.specs.Listing.{listedOn}
-use Rattle.tables.specs.Refused.{isFull, refusalOn, given}
-use Rattle.tables.specs.Fitting.{Consistent}
+use Rattle.tables.specs.Visits.{Marking}
+use Rattle.tables.specs.Refused.{isFull, refusalBy, given}
+use Rattle.tables.specs.Fitting.{ConsistentBy}
 use Rattle.tables.proofs.Bits.{closed-same}
 use Rattle.tables.proofs.Listed.{listed-same}
 use Rattle.tables.proofs.Refusing.{neither}
 use Rattle.engine.specs.declared.Answer.{Answer}
 use Rattle.engine.specs.Answers.{answerNumber, newsOf, answerOutcome}
-use Rattle.engine.specs.Promise.{Promise}
-use Rattle.engine.proofs.Running.{Sound, sound-accepted}
+use Rattle.engine.specs.Promise.{PromiseBy}
+use Rattle.engine.proofs.Running.{SoundBy, sound-accepted}
 
 -- a rule with its test
 abbrev rule : Bool → ℕ → Rule
@@ -38,7 +39,7 @@ guarded : (r r′ : Bool) → r ≡ r′ → (l l′ : List Rule) → (r ≡ fal
 guarded true r′ e l l′ q = rw (← e)
 guarded false r′ e l l′ q = rw (← e) (q refl)
 
-module _ {h : History} {g : Graph} {t : Tables} (c : Consistent h g t) where
+module _ {form : Marking} {h : History} {g : Graph} {t : Tables} (c : ConsistentBy form h g t) where
   sent-same : (long : Bool) (x : Update) → first (sent (given g long (isFull g) (listedOn g t) (t .marks)) x) ≡ first (sent (givenAfter (g .n) (g .limit) h) x)
   unfolding givenAfter
   sent-same long (Step d) =
@@ -52,14 +53,14 @@ module _ {h : History} {g : Graph} {t : Tables} (c : Consistent h g t) where
   sent-same long (Close u) = refl
 
   -- The number on the tables is the one by the history.
-  pub same-refusal : longEnough g t ≡ true → (x : Update) → refusalOn g t x ≡ refusal (givenAfter (g .n) (g .limit) h) x
+  pub same-refusal : longEnoughBy (form .entries) g t ≡ true → (x : Update) → refusalBy (form .entries) g t x ≡ refusal (givenAfter (g .n) (g .limit) h) x
   unfolding refusal givenAfter
   same-refusal e x =
       append-same
-      (lent (given g (longEnough g t) (isFull g) (listedOn g t) (t .marks))) (lent (givenAfter (g .n) (g .limit) h))
-      (sent (given g (longEnough g t) (isFull g) (listedOn g t) (t .marks)) x) (sent (givenAfter (g .n) (g .limit) h) x)
+      (lent (given g (longEnoughBy (form .entries) g t) (isFull g) (listedOn g t) (t .marks))) (lent (givenAfter (g .n) (g .limit) h))
+      (sent (given g (longEnoughBy (form .entries) g t) (isFull g) (listedOn g t) (t .marks)) x) (sent (givenAfter (g .n) (g .limit) h) x)
       (rw (e, c .steps))
-      (sent-same (longEnough g t) x)
+      (sent-same (longEnoughBy (form .entries) g t) x)
     where
       append-same : (a a′ b b′ : List Rule) → a ≡ a′ → first b ≡ first b′ → first (a ++ b) ≡ first (a′ ++ b′)
       append-same a a′ b b′ p q = rw p (go a′)
@@ -69,12 +70,12 @@ module _ {h : History} {g : Graph} {t : Tables} (c : Consistent h g t) where
           go (r ∷ l) = ap (λ (o : Option ℕ). cond (r .applies) (some (r .number)) o) (go l)
 
 -- What the engine answers is the outcome of the definitions, and the tables are those of the history after it.
-module _ {g₀ : Graph} {t₀ : Tables} {h : History} {g g′ : Graph} {t t′ : Tables} (s : Sound g₀ t₀ h g t) (long : longEnough g t ≡ true) (x : Update) {a : Answer} (p : Promise g x t g′ a t′) where
-  pub replay : (answerOutcome a (t′ .news) ≡ outcome (g .n) (g .limit) h x) × Sound g₀ t₀ (after (g .n) (g .limit) h x) g′ t′
+module _ {form : Marking} {g₀ : Graph} {t₀ : Tables} {h : History} {g g′ : Graph} {t t′ : Tables} (s : SoundBy form g₀ t₀ h g t) (long : longEnoughBy (form .entries) g t ≡ true) (x : Update) {a : Answer} (p : PromiseBy form g x t g′ a t′) where
+  pub replay : (answerOutcome a (t′ .news) ≡ outcome (g .n) (g .limit) h x) × SoundBy form g₀ t₀ (after (g .n) (g .limit) h x) g′ t′
   unfolding outcome after
   replay = at (refusal (givenAfter (g .n) (g .limit) h) x) refl
     where
-      at : (o : Option ℕ) → refusal (givenAfter (g .n) (g .limit) h) x ≡ o → (byNumber (answerNumber a) (newsOf a (t′ .news)) ≡ byNumber o (news (g .n) h x)) × Sound g₀ t₀ (elim o [ none ↦ x ∷ h | some k ↦ h ]) g′ t′
+      at : (o : Option ℕ) → refusal (givenAfter (g .n) (g .limit) h) x ≡ o → (byNumber (answerNumber a) (newsOf a (t′ .news)) ≡ byNumber o (news (g .n) h x)) × SoundBy form g₀ t₀ (elim o [ none ↦ x ∷ h | some k ↦ h ]) g′ t′
       at none e =
           let r = same-refusal (s .fits) long x ∙ e in
           let w = p .accepts r in

@@ -1,4 +1,4 @@
--- What holds all along a run from fresh tables.
+-- What holds all along a run from fresh tables, whatever the form of its visited marks.
 -- Assumes nothing.
 use mathlib.Core.Path.{_≡_, refl, sym, _∙_, ap}
 use mathlib.Core.Logic.{_⊎_, inl, inr}
@@ -17,29 +17,31 @@ use Rattle.gid.specs.Histories.{History, MayFollow, Legal, IsClosed, isIn, adde
 use Rattle.gid.specs.Refusals.{lent, sent, refusal, maxStates, maxSteps, maxKey}
 use Rattle.gid.proofs.Decide.{refutes, refuted}
 use Rattle.tables.specs.declared.Graph.{Graph}
-use Rattle.tables.specs.Tables.{Tables, lengths, longEnough}
+use Rattle.tables.specs.Tables.{Tables, lengths, longEnoughBy}
 use Rattle.tables.specs.Marks.{hasClosed, closesAgain}
+use Rattle.tables.specs.Visits.{Marking, byBit}
 use Rattle.tables.specs.Listing.{listedOn}
-use Rattle.tables.specs.Refused.{isFull, given, isAgain, refusalOn, placeNumber}
-use Rattle.tables.specs.Fitting.{Checked, Consistent, Fresh}
+use Rattle.tables.specs.Refused.{isFull, given, isAgain, refusalBy, placeNumber}
+use Rattle.tables.specs.Fitting.{CheckedBy, ConsistentBy, FreshBy, Fresh}
 use Rattle.tables.proofs.Bits.{decides-closed-mark}
 use Rattle.tables.proofs.Keeping.{lengths-kept}
 use Rattle.tables.proofs.Listed.{listed-same}
-use Rattle.tables.proofs.Refusing.{NoneApply, none-applies, first-none, accepted-passes}
+use Rattle.tables.proofs.Marking.{ClearAtZero, zeros-unvisited}
+use Rattle.tables.proofs.Refusing.{NoneApply, none-applies, first-none, accepted-passes-by}
 use Rattle.tables.proofs.Starting.{fresh-consistent}
 use Rattle.engine.specs.declared.Answer.{Answer}
 use Rattle.engine.specs.declared.Answer.the-variants.{Accepted, Refused}
-use Rattle.engine.specs.Promise.{AcceptedUpdate, Promise, Sendable}
-use Rattle.engine.specs.Runs.{Run, begun, accepted, refused}
+use Rattle.engine.specs.Promise.{AcceptedUpdateBy, PromiseBy, Sendable}
+use Rattle.engine.specs.Runs.{RunBy, Run, begun, accepted, refused}
 use Rattle.engine.proofs.Acting.{source-below}
 use Rattle.engine.proofs.Promising.{passed-of}
 
 -- What an accepting and a refusing answer tell.
-module _ {g : Graph} {x : Update} {t : Tables} {g′ : Graph} {t′ : Tables} {k : ℕ} where
-  pub was-accepted : Promise g x t g′ (Accepted k) t′ → (refusalOn g t x ≡ none) × AcceptedUpdate g x t g′ t′ (Accepted k)
+module _ {form : Marking} {g : Graph} {x : Update} {t : Tables} {g′ : Graph} {t′ : Tables} {k : ℕ} where
+  pub was-accepted : PromiseBy form g x t g′ (Accepted k) t′ → (refusalBy (form .entries) g t x ≡ none) × AcceptedUpdateBy form g x t g′ t′ (Accepted k)
   was-accepted p = (sym (p .number), p .accepts (sym (p .number)))
 
-  pub was-refused : Promise g x t g′ (Refused k) t′ → (refusalOn g t x ≡ some k) × (g′ ≡ g) × (t′ ≡ t)
+  pub was-refused : PromiseBy form g x t g′ (Refused k) t′ → (refusalBy (form .entries) g t x ≡ some k) × (g′ ≡ g) × (t′ ≡ t)
   was-refused p = let r = p .refuses k (sym (p .number)) in (sym (p .number), r .1, r .2)
 
 -- what an accepted update adds has a place
@@ -55,13 +57,16 @@ steps-room g (Terminal u) marks has h q = omega arith
 steps-room g (Close u) marks has h q = omega arith
 
 -- What holds after each call of a run: the accepted history is legal, the tables fit for it, and sizes are as they were.
-pub record Sound (g₀ : Graph) (t₀ : Tables) (h : History) (g : Graph) (t : Tables) : Type 0 where
+pub record SoundBy (form : Marking) (g₀ : Graph) (t₀ : Tables) (h : History) (g : Graph) (t : Tables) : Type 0 where
   pub legal : Legal h
-  pub fits : Consistent h g t
+  pub fits : ConsistentBy form h g t
   pub states : g .n ≡ g₀ .n
   pub limit : g .limit ≡ g₀ .limit
   pub sizes : lengths t ≡ lengths t₀
   pub room : g .steps ≤ g .limit
+
+abbrev pub Sound : (g₀ : Graph) (t₀ : Tables) (h : History) (g : Graph) (t : Tables) → Type 0
+Sound = SoundBy byBit
 
 -- What an update adds turns on the test alone.
 pub added-same : (x : Update) {has has′ : Edge → Bool} → ((e : Edge) → has e ≡ has′ e) → added has x ≡ added has′ x
@@ -70,19 +75,19 @@ added-same (Terminal u) f = refl
 added-same (Close u) f = refl
 
 -- an update sent from a state that is not closed does not meet 6
-pub unmarked : {h : History} {g : Graph} {t : Tables} → Consistent h g t → (u : ℕ) → u < g .n → (IsClosed h u → ⊥) → hasClosed (getD (t .marks) u 0) ≡ false
+pub unmarked : {form : Marking} {h : History} {g : Graph} {t : Tables} → ConsistentBy form h g t → (u : ℕ) → u < g .n → (IsClosed h u → ⊥) → hasClosed (getD (t .marks) u 0) ≡ false
 unmarked {t = t} c u r o = refutes (hasClosed (getD (t .marks) u 0)) (decides-closed-mark c u r) o
 
-module _ {g₀ : Graph} {t₀ : Tables} where
+module _ {form : Marking} {g₀ : Graph} {t₀ : Tables} where
   -- a check in between keeps it
-  pub sound-checked : {h : History} {g : Graph} {t t₁ : Tables} → Sound g₀ t₀ h g t → Checked g t t₁ → Sound g₀ t₀ h g t₁
+  pub sound-checked : {h : History} {g : Graph} {t t₁ : Tables} → SoundBy form g₀ t₀ h g t → CheckedBy form g t t₁ → SoundBy form g₀ t₀ h g t₁
   sound-checked {h} s c =
       record { legal = s .legal; fits = c .fits h (s .legal) (s .fits); states = s .states; limit = s .limit; sizes = c .sizes ∙ s .sizes; room = s .room }
 
   -- what is accepted may follow what was
-  pub may-follow : {h : History} {g : Graph} {t : Tables} → Sound g₀ t₀ h g t → (x : Update) → refusalOn g t x ≡ none → MayFollow h x
+  pub may-follow : {h : History} {g : Graph} {t : Tables} → SoundBy form g₀ t₀ h g t → (x : Update) → refusalBy (form .entries) g t x ≡ none → MayFollow h x
   may-follow {h} {g} {t} s x e =
-      let p = accepted-passes g t x e in
+      let p = accepted-passes-by (form .entries) g t x e in
       let q = passed-of g (t .marks) x (p .1) in
       at x (source-below (g .n) x (q .0)) (q .2)
     where
@@ -95,15 +100,15 @@ module _ {g₀ : Graph} {t₀ : Tables} where
       at (Close u) r q = tt
 
   -- the step list with what is accepted is within the limit
-  pub listed-room : {h : History} {g : Graph} {t : Tables} → Sound g₀ t₀ h g t → (x : Update) → cond (isAgain x (t .marks) (listedOn g t)) 0 (placeNumber (isFull g) x) ≡ 0 → length (listed (x ∷ h)) ≤ g .limit
+  pub listed-room : {h : History} {g : Graph} {t : Tables} → SoundBy form g₀ t₀ h g t → (x : Update) → cond (isAgain x (t .marks) (listedOn g t)) 0 (placeNumber (isFull g) x) ≡ 0 → length (listed (x ∷ h)) ≤ g .limit
   unfolding listed
   listed-room {h} {g} {t} s x q =
       let r = steps-room g x (t .marks) (listedOn g t) (s .room) q in
       rw (length-append, ← added-same x (listed-same (s .fits)), ← s .fits .steps) r
 
-  pub sound-accepted : {h : History} {g g′ : Graph} {t t′ : Tables} {x : Update} {a : Answer} → Sound g₀ t₀ h g t → refusalOn g t x ≡ none → AcceptedUpdate g x t g′ t′ a → Sound g₀ t₀ (x ∷ h) g′ t′
+  pub sound-accepted : {h : History} {g g′ : Graph} {t t′ : Tables} {x : Update} {a : Answer} → SoundBy form g₀ t₀ h g t → refusalBy (form .entries) g t x ≡ none → AcceptedUpdateBy form g x t g′ t′ a → SoundBy form g₀ t₀ (x ∷ h) g′ t′
   sound-accepted {h} {g} {g′} {t} {t′} {x} s e a =
-      let q = accepted-passes g t x e in
+      let q = accepted-passes-by (form .entries) g t x e in
       record {
         legal = (s .legal, may-follow s x e);
         fits = a .fits h (s .legal) (s .fits) .0;
@@ -113,34 +118,37 @@ module _ {g₀ : Graph} {t₀ : Tables} where
         room = rw (a .graph) (steps-room g x (t .marks) (listedOn g t) (s .room) (q .2));
       }
 
-  pub sound : {xs : List Update} {h : History} {g : Graph} {t : Tables} → Fresh g₀ t₀ → Run g₀ t₀ xs h g t → Sound g₀ t₀ h g t
-  sound f begun = record { legal = tt; fits = fresh-consistent g₀ t₀ f; states = refl; limit = refl; sizes = refl; room = omega (arith, f .noSteps) }
-  sound f (accepted r c x k p) = let a = was-accepted p in sound-accepted (sound-checked (sound f r) c) (a .0) (a .1)
-  sound f (refused r c x k p) = let q = was-refused p in rw (q .1, q .2) (sound-checked (sound f r) c)
+  pub sound-by : {xs : List Update} {h : History} {g : Graph} {t : Tables} → ClearAtZero form → FreshBy form g₀ t₀ → RunBy form g₀ t₀ xs h g t → SoundBy form g₀ t₀ h g t
+  sound-by z f begun = record { legal = tt; fits = fresh-consistent z g₀ t₀ f; states = refl; limit = refl; sizes = refl; room = omega (arith, f .noSteps) }
+  sound-by z f (accepted r c x k p) = let a = was-accepted p in sound-accepted (sound-checked (sound-by z f r) c) (a .0) (a .1)
+  sound-by z f (refused r c x k p) = let q = was-refused p in rw (q .1, q .2) (sound-checked (sound-by z f r) c)
 
   -- Where the tests 1 to 4 find nothing, an update in range that may follow and, for a step, has a key of 0 to 31 and a free place or an equal step listed is accepted.
-  pub not-refused : {h : History} {g : Graph} {t : Tables} → Sound g₀ t₀ h g t → 0 < g .n → g .n ≤ maxStates → 0 < g .limit → g .limit ≤ maxSteps → longEnough g t ≡ true → (x : Update) → Sendable (g .n) (g .limit) (g .steps) (isIn (listed h)) x → MayFollow h x → refusalOn g t x ≡ none
+  pub not-refused : {h : History} {g : Graph} {t : Tables} → SoundBy form g₀ t₀ h g t → 0 < g .n → g .n ≤ maxStates → 0 < g .limit → g .limit ≤ maxSteps → longEnoughBy (form .entries) g t ≡ true → (x : Update) → Sendable (g .n) (g .limit) (g .steps) (isIn (listed h)) x → MayFollow h x → refusalBy (form .entries) g t x ≡ none
   unfolding refusal
   not-refused {h} {g} {t} s a b c d e x r o =
-      first-none (lent (given g (longEnough g t) (isFull g) (listedOn g t) (t .marks)))
-      (sent (given g (longEnough g t) (isFull g) (listedOn g t) (t .marks)) x)
-      (none-applies (lent (given g (longEnough g t) (isFull g) (listedOn g t) (t .marks))) (
+      first-none (lent (given g (longEnoughBy (form .entries) g t) (isFull g) (listedOn g t) (t .marks)))
+      (sent (given g (longEnoughBy (form .entries) g t) (isFull g) (listedOn g t) (t .marks)) x)
+      (none-applies (lent (given g (longEnoughBy (form .entries) g t) (isFull g) (listedOn g t) (t .marks))) (
         rw (ne-eqb (g .n) 0 (λ z. absurd (omega arith))) (le-ltb maxStates (g .n) b),
         (
           rw (ne-eqb (g .limit) 0 (λ z. absurd (omega arith))) (le-ltb maxSteps (g .limit) d),
           (rw e refl, (le-ltb (g .limit) (g .steps) (s .room), tt)),
         ),
       )) ∙
-      none-applies (sent (given g (longEnough g t) (isFull g) (listedOn g t) (t .marks)) x) (sents x r o)
+      none-applies (sent (given g (longEnoughBy (form .entries) g t) (isFull g) (listedOn g t) (t .marks)) x) (sents x r o)
     where
       placed : (d : Edge) → (g .steps < g .limit) ⊎ (isIn (listed h) d ≡ true) → isFull g && not (listedOn g t d) ≡ false
       placed d (inl q) = rw (ne-eqb (g .steps) (g .limit) (λ z. absurd (omega arith)))
       placed d (inr q) = rw (listed-same (s .fits) d, q) (and-false (isFull g))
 
-      sents : (y : Update) → Sendable (g .n) (g .limit) (g .steps) (isIn (listed h)) y → MayFollow h y → NoneApply (sent (given g (longEnough g t) (isFull g) (listedOn g t) (t .marks)) y)
+      sents : (y : Update) → Sendable (g .n) (g .limit) (g .steps) (isIn (listed h)) y → MayFollow h y → NoneApply (sent (given g (longEnoughBy (form .entries) g t) (isFull g) (listedOn g t) (t .marks)) y)
       sents (Step d) q n = (
         rw (lt-leb (g .n) (d .from) (q .0)) (lt-leb (g .n) (d .to) (q .1)),
         (le-ltb maxKey (d .key) (q .2), (unmarked (s .fits) (d .from) (q .0) n, (placed d (q .3), tt))),
       )
       sents (Terminal u) q n = (lt-leb (g .n) u q, (unmarked (s .fits) u q n, tt))
       sents (Close u) q n = (lt-leb (g .n) u q, tt)
+
+pub sound : {g₀ g : Graph} {t₀ t : Tables} {xs : List Update} {h : History} → Fresh g₀ t₀ → Run g₀ t₀ xs h g t → Sound g₀ t₀ h g t
+sound = sound-by zeros-unvisited

@@ -8,6 +8,7 @@ use super::spread::Span;
 use tables::NO_SUCCESSOR;
 use tables::clear_visited;
 use tables::is_visited;
+use tables::skip_unvisited;
 
 // Gives each visited node from the span's least to its greatest the verdict and no successor, tells its news, in rising order, and unmarks
 // it. Answers the number of news.
@@ -29,7 +30,7 @@ pub fn settle(
     let mut count = 0;
     while s <= high {
         count = settle_node(s, verdict, count, status, successor, news, visited);
-        s = s + 1;
+        s = skip_unvisited(visited, s);
     }
     count
 }

@@ -15,7 +15,8 @@ use Rattle.gid.proofs.Tests.{decides-closed}
 use Rattle.tables.specs.declared.Graph.{Graph}
 use Rattle.tables.specs.Tables.{Tables}
 use Rattle.tables.specs.Marks.{hasNamed, hasTerminal, hasClosed, withNamed, withTerminal, withClosed}
-use Rattle.tables.specs.Fitting.{marksOf, Consistent}
+use Rattle.tables.specs.Visits.{Marking}
+use Rattle.tables.specs.Fitting.{marksOf, ConsistentBy}
 
 quarter : (x : ℕ) → x / 4 ≡ x / 2 / 2
 quarter x = omega arith
@@ -90,7 +91,7 @@ pub closed-bit : (h : History) (s : ℕ) → hasClosed (marksOf h s) ≡ isClose
 closed-bit h s = marks-bits h s .2
 
 -- On tables that fit for a history, a state's closed mark says whether the history has closed it: as tests, and as a statement.
-module _ {h : History} {g : Graph} {t : Tables} (c : Consistent h g t) (s : ℕ) (range : s < g .n) where
+module _ {form : Marking} {h : History} {g : Graph} {t : Tables} (c : ConsistentBy form h g t) (s : ℕ) (range : s < g .n) where
   pub closed-same : hasClosed (getD (t .marks) s 0) ≡ isClosed h s
   closed-same = ap hasClosed (c .marks s range) ∙ closed-bit h s
 

@@ -8,7 +8,7 @@ use lib.ListN.{length, getD, set, drop, replicate, length-append, length-drop, l
 use lib.Seq.{getD-set-other, getD-append-add, getD-drop}
 use borrow.Author.Fill.{fill-none, fill-more}
 use Rattle.tables.specs.Tables.{Tables, lengths, visitedLength}
-use Rattle.tables.specs.Keeping.{Kept, KeptTables, filled}
+use Rattle.tables.specs.Keeping.{Kept, KeptTablesBy, KeptTables, filled}
 
 pub kept-none : (n : ℕ) (l : List ℕ) → Kept n l l
 kept-none n l = record { size = refl; past = λ i h. refl }
@@ -66,7 +66,7 @@ tables-then a b =
 -- what is kept for some states is kept for more
 pub visited-wider : {m n : ℕ} → m ≤ n → visitedLength m ≤ visitedLength n
 unfolding visitedLength
-visited-wider h = h
+visited-wider h = omega arith
 
 pub tables-wider : {m n limit : ℕ} {t t′ : Tables} → m ≤ n → KeptTables m m limit t t′ → KeptTables n n limit t t′
 tables-wider h k =
@@ -86,7 +86,7 @@ tables-wider h k =
       outNext = k .outNext;
     }
 
-pub lengths-kept : {n nodes limit : ℕ} {t t′ : Tables} → KeptTables n nodes limit t t′ → lengths t′ ≡ lengths t
+pub lengths-kept : {entries : ℕ → ℕ} {n nodes limit : ℕ} {t t′ : Tables} → KeptTablesBy entries n nodes limit t t′ → lengths t′ ≡ lengths t
 lengths-kept k =
     λ i.
     record {

@@ -5,6 +5,7 @@ pub mod Refusing
 pub mod Dead
 pub mod Sizes
 pub mod Bits
+pub mod BitLaws
 pub mod Marking
 pub mod Listed
 pub mod Starting

@@ -21,7 +21,8 @@ use Rattle.gid.proofs.Listing.{decides-same, decides-listed, has-listed, listed
 use Rattle.tables.specs.declared.Graph.{Graph}
 use Rattle.tables.specs.Tables.{Tables}
 use Rattle.tables.specs.Listing.{isEqualAt, firstBelow, isFound, listedOn, Distinct}
-use Rattle.tables.specs.Fitting.{sources, targets, StepAt, Consistent}
+use Rattle.tables.specs.Visits.{Marking}
+use Rattle.tables.specs.Fitting.{sources, targets, StepAt, ConsistentBy}
 
 -- The first m entries of two lists are the ends of the history's steps.
 pub record ListsSteps (h : History) (m : ℕ) (from to : List ℕ) : Type 0 where
@@ -57,7 +58,7 @@ module _ {h : History} {m : ℕ} {from to : List ℕ} (l : ListsSteps h m from t
   list-has-step {a} {p} {b} s = arc-step h (arcs-listed a p b .0 s)
 
 -- The lists of tables that fit.
-module _ {h : History} {g : Graph} {t : Tables} (c : Consistent h g t) where
+module _ {form : Marking} {h : History} {g : Graph} {t : Tables} (c : ConsistentBy form h g t) where
   pub lists-of : ListsSteps h (g .steps) (t .from) (t .to)
   lists-of = record { count = c .steps; froms = c .from; tos = c .to }
 
@@ -97,7 +98,7 @@ module _ (from to key : List ℕ) (e : Edge) where
   decides-equal-at p = decides-same (edge (getD from p 0) (getD to p 0) (getD key p 0)) e
 
 -- On tables that fit, the listed steps are those of the history's list, and no two are equal.
-module _ {h : History} {g : Graph} {t : Tables} (c : Consistent h g t) where
+module _ {form : Marking} {h : History} {g : Graph} {t : Tables} (c : ConsistentBy form h g t) where
   pub listed-same : (e : Edge) → listedOn g t e ≡ isIn (listed h) e
   listed-same e =
       same-test (listedOn g t e) (isIn (listed h) e) (decides-found (isEqualAt (t .from) (t .to) (t .key) e) (g .steps)) (decides-listed h e)

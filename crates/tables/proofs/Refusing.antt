@@ -15,10 +15,10 @@ use Rattle.gid.specs.declared.Update.the-variants.{Step, Terminal, Close}
 use Rattle.gid.specs.Refusals.{Given, Rule, first, lent, sent, refusal, maxStates, maxSteps, maxKey}
 use Rattle.tables.specs.declared.Graph.{Graph}
 use Rattle.gid.specs.Outcomes.{refused, accepted as gives}
-use Rattle.tables.specs.Tables.{Tables, longEnough}
+use Rattle.tables.specs.Tables.{Tables, visitedLength, longEnoughBy, longEnough}
 use Rattle.tables.specs.Marks.{hasClosed}
 use Rattle.tables.specs.Listing.{listedOn}
-use Rattle.tables.specs.Refused.{isFull, given, refusalOn, noneListed, isAgain, lentRules, number, lentNumber, sentNumber, placeNumber, statusRules, statusAnswer}
+use Rattle.tables.specs.Refused.{isFull, given, refusalBy, refusalOn, noneListed, isAgain, lentRules, number, lentNumber, sentNumber, placeNumber, statusRules, statusAnswer}
 
 -- No rule of the list has the number 0.
 abbrev pub Positive : List Rule → Type 0
@@ -248,15 +248,18 @@ split-none (r ∷ l) m e = at (r .applies) e (split-none l m)
     at true q i = absurd (let z : _≡_ {A = ℕ} 0 1 = cc in omega arith)
     at false q i = i q
 
--- An accepted update has passed the tests 1 to 4, and 5, 14 and 6, and needs no place or has one.
-pub accepted-passes : (g : Graph) (t : Tables) (x : Update) → refusalOn g t x ≡ none → (lentNumber g (longEnough g t) ≡ 0) × (sentNumber g (t .marks) x ≡ 0) × (cond (isAgain x (t .marks) (listedOn g t)) 0 (placeNumber (isFull g) x) ≡ 0)
+-- An accepted update has passed the tests 1 to 4, and 5, 14 and 6, and needs no place or has one: whatever the visited marks take, and where they are bits.
+pub accepted-passes-by : (entries : ℕ → ℕ) (g : Graph) (t : Tables) (x : Update) → refusalBy entries g t x ≡ none → (lentNumber g (longEnoughBy entries g t) ≡ 0) × (sentNumber g (t .marks) x ≡ 0) × (cond (isAgain x (t .marks) (listedOn g t)) 0 (placeNumber (isFull g) x) ≡ 0)
 unfolding refusal lentNumber sentNumber orNine
-accepted-passes g t x e =
-    let p = split-none (lent (given g (longEnough g t) (isFull g) (listedOn g t) (t .marks))) (sent (given g (longEnough g t) (isFull g) (listedOn g t) (t .marks)) x) e in
-    let q = at (first (sent (given g true false noneListed (t .marks)) x)) (lacks (isFull g) (listedOn g t) x) (sym (sent-any g (longEnough g t) (isFull g) (listedOn g t) (t .marks) x) ∙ p .1) in
+accepted-passes-by entries g t x e =
+    let p = split-none (lent (given g (longEnoughBy entries g t) (isFull g) (listedOn g t) (t .marks))) (sent (given g (longEnoughBy entries g t) (isFull g) (listedOn g t) (t .marks)) x) e in
+    let q = at (first (sent (given g true false noneListed (t .marks)) x)) (lacks (isFull g) (listedOn g t) x) (sym (sent-any g (longEnoughBy entries g t) (isFull g) (listedOn g t) (t .marks) x) ∙ p .1) in
     (ap number (p .0), ap number (q .0), sym (lacks-place (isFull g) (listedOn g t) x (t .marks)) ∙ ap nine (q .1))
   where
     at : (o : Option ℕ) (b : Bool) → orNine b o ≡ none → (o ≡ none) × (b ≡ false)
     at none true z = absurd (let y : _≡_ {A = ℕ} 0 1 = cc in omega arith)
     at none false z = (refl, refl)
     at (some k) b z = absurd (let y : _≡_ {A = ℕ} 0 1 = cc in omega arith)
+
+pub accepted-passes : (g : Graph) (t : Tables) (x : Update) → refusalOn g t x ≡ none → (lentNumber g (longEnough g t) ≡ 0) × (sentNumber g (t .marks) x ≡ 0) × (cond (isAgain x (t .marks) (listedOn g t)) 0 (placeNumber (isFull g) x) ≡ 0)
+accepted-passes = accepted-passes-by visitedLength

@@ -12,12 +12,13 @@ use Rattle.gid.proofs.Chains.{successor-rule}
 use Rattle.tables.specs.declared.Graph.{Graph}
 use Rattle.tables.specs.Tables.{Tables}
 use Rattle.tables.specs.Work.{lastBefore}
-use Rattle.tables.specs.Fitting.{marksOf, StepAt, Consistent, Fresh}
-use Rattle.tables.proofs.Marking.{zeros-unvisited}
+use Rattle.tables.specs.Visits.{Marking}
+use Rattle.tables.specs.Fitting.{marksOf, StepAt, ConsistentBy, FreshBy}
+use Rattle.tables.proofs.Marking.{ClearAtZero}
 
-pub fresh-consistent : (g : Graph) (t : Tables) → Fresh g t → Consistent [] g t
+pub fresh-consistent : {form : Marking} → ClearAtZero form → (g : Graph) (t : Tables) → FreshBy form g t → ConsistentBy form [] g t
 unfolding listed marksOf isNamed isTerminal isClosed lastBefore
-fresh-consistent g t f =
+fresh-consistent clear g t f =
     record {
       inRange = λ s m. absurd (List·Memᴰ·not-nil (m .1));
       keysInRange = λ e m. absurd (List·Memᴰ·not-nil m);
@@ -33,7 +34,7 @@ fresh-consistent g t f =
           (λ s h n. f .successor s h);
       into = record { heads = λ v h. rw (f .noSteps) (f .inHead v h); nexts = λ p h. absurd (omega (arith, f .noSteps)) };
       outOf = record { heads = λ v h. rw (f .noSteps) (f .outHead v h); nexts = λ p h. absurd (omega (arith, f .noSteps)) };
-      unvisited = zeros-unvisited (g .n) (t .visited) (f .visited);
+      unvisited = clear (g .n) (t .visited) (f .visited);
     }
   where
     none : (s : ℕ) → (s < g .n) × (getD (t .status) s 0 ≡ statusUnknown) → ⊥

@@ -12,8 +12,8 @@ use Rattle.gid.specs.Statuses.{isNamed, isTerminal, isClosed, status}
 use Rattle.gid.specs.Successors.{SuccessorRule, noSuccessor}
 use Rattle.gid.specs.Refusals.{maxKey}
 use Rattle.tables.specs.declared.Graph.{Graph}
-use Rattle.tables.specs.Tables.{Tables, lengths, nodesOf, visitedLength}
-use Rattle.tables.specs.Visits.{NoneVisited}
+use Rattle.tables.specs.Tables.{Tables, lengths, nodesOf}
+use Rattle.tables.specs.Visits.{Marking, byBit, NoneVisitedBy}
 use Rattle.tables.specs.Work.{ListRule}
 
 -- The two ends of a history's steps and their keys, in order of acceptance.
@@ -34,8 +34,8 @@ StepAt m from to s p t = (p < m) × (getD from p 0 ≡ s) × (getD to p 0 ≡ t)
 unfoldable pub marksOf : History → ℕ → ℕ
 marksOf h s = cond (isNamed h s) 1 0 + cond (isTerminal h s) 2 0 + cond (isClosed h s) 4 0
 
--- The tables fit for the history h.
-pub record Consistent (h : History) (g : Graph) (t : Tables) : Type 0 where
+-- The tables fit for the history h, with visited marks of some form.
+pub record ConsistentBy (form : Marking) (h : History) (g : Graph) (t : Tables) : Type 0 where
   -- The states of the history are those of the tables, "numbered 0 to n−1".
   pub inRange : (s : ℕ) → IsNamed h s → s < g .n
   -- "Each step now carries a key, 0 to 31"
@@ -52,7 +52,11 @@ pub record Consistent (h : History) (g : Graph) (t : Tables) : Type 0 where
   -- The work rule.
   pub into : ListRule (g .n) (g .steps) (t .to) (t .inHead) (t .inNext)
   pub outOf : ListRule (g .n) (g .steps) (t .from) (t .outHead) (t .outNext)
-  pub unvisited : NoneVisited (nodesOf g) (t .visited)
+  pub unvisited : NoneVisitedBy form (nodesOf g) (t .visited)
+
+-- So for the calls, whose marks are bits.
+abbrev pub Consistent : History → Graph → Tables → Type 0
+Consistent = ConsistentBy byBit
 
 -- "Tables fit when some legal history gives" them.
 abbrev pub Fits : Graph → Tables → Type 0
@@ -63,7 +67,7 @@ abbrev pub AllBelow : ℕ → ℕ → List ℕ → Type 0
 AllBelow n v l = (s : ℕ) → s < n → getD l s 0 ≡ v
 
 -- "Fresh tables have status and marks 0, successors 65,535, no steps, and 0 in every needed work entry."
-pub record Fresh (g : Graph) (t : Tables) : Type 0 where
+pub record FreshBy (form : Marking) (g : Graph) (t : Tables) : Type 0 where
   pub noSteps : g .steps ≡ 0
   pub status : AllBelow (nodesOf g) 0 (t .status)
   pub marks : AllBelow (g .n) 0 (t .marks)
@@ -71,12 +75,15 @@ pub record Fresh (g : Graph) (t : Tables) : Type 0 where
   pub inHead : AllBelow (nodesOf g) 0 (t .inHead)
   pub outHead : AllBelow (nodesOf g) 0 (t .outHead)
   pub queue : AllBelow (nodesOf g) 0 (t .queue)
-  pub visited : AllBelow (visitedLength (nodesOf g)) 0 (t .visited)
+  pub visited : AllBelow (form .entries (nodesOf g)) 0 (t .visited)
   pub inNext : AllBelow (g .limit) 0 (t .inNext)
   pub outNext : AllBelow (g .limit) 0 (t .outNext)
 
+abbrev pub Fresh : Graph → Tables → Type 0
+Fresh = FreshBy byBit
+
 -- What a table check between two calls leaves: all tables as they were, "but for what a table check in between wrote into work tables", "which after a yes still fit". No check at all leaves them so too.
-pub record Checked (g : Graph) (t t′ : Tables) : Type 0 where
+pub record CheckedBy (form : Marking) (g : Graph) (t t′ : Tables) : Type 0 where
   pub status : t′ .status ≡ t .status
   pub marks : t′ .marks ≡ t .marks
   pub from : t′ .from ≡ t .from
@@ -85,4 +92,7 @@ pub record Checked (g : Graph) (t t′ : Tables) : Type 0 where
   pub successor : t′ .successor ≡ t .successor
   pub news : t′ .news ≡ t .news
   pub sizes : lengths t′ ≡ lengths t
-  pub fits : (h : History) → Legal h → Consistent h g t → Consistent h g t′
+  pub fits : (h : History) → Legal h → ConsistentBy form h g t → ConsistentBy form h g t′
+
+abbrev pub Checked : Graph → (t t′ : Tables) → Type 0
+Checked = CheckedBy byBit

@@ -15,8 +15,8 @@ pub record Kept (n : ℕ) (l l′ : List ℕ) : Type 0 where
 abbrev pub KeptVisited : ℕ → List ℕ → List ℕ → Type 0
 KeptVisited nodes l l′ = Kept (visitedLength nodes) l l′
 
--- Every table was, for n states, the nodes of a search and a step limit.
-pub record KeptTables (n nodes limit : ℕ) (t t′ : Tables) : Type 0 where
+-- Every table was, for n states, the nodes of a search and a step limit, where the visited marks of some nodes take so many entries.
+pub record KeptTablesBy (entries : ℕ → ℕ) (n nodes limit : ℕ) (t t′ : Tables) : Type 0 where
   pub status : Kept nodes (t .status) (t′ .status)
   pub marks : Kept n (t .marks) (t′ .marks)
   pub from : Kept limit (t .from) (t′ .from)
@@ -27,9 +27,13 @@ pub record KeptTables (n nodes limit : ℕ) (t t′ : Tables) : Type 0 where
   pub inHead : Kept nodes (t .inHead) (t′ .inHead)
   pub outHead : Kept nodes (t .outHead) (t′ .outHead)
   pub queue : Kept nodes (t .queue) (t′ .queue)
-  pub visited : KeptVisited nodes (t .visited) (t′ .visited)
+  pub visited : Kept (entries nodes) (t .visited) (t′ .visited)
   pub inNext : Kept limit (t .inNext) (t′ .inNext)
   pub outNext : Kept limit (t .outNext) (t′ .outNext)
+
+-- So for the calls, whose marks are bits.
+abbrev pub KeptTables : (n nodes limit : ℕ) (t t′ : Tables) → Type 0
+KeptTables = KeptTablesBy visitedLength
 
 -- The first entries of a table all set to one value, the others as they were.
 unfoldable pub filled : ℕ → ℕ → List ℕ → List ℕ

@@ -1,9 +1,11 @@
--- What the engine is handed, and what "the tables fit" means. This is what a reader believes. Inner contracts, which no promise cites, are in it `Long` (Tables), `HasMark`, `mark` and `unmark` (Visits) and `number`, `lentNumber` and `sentNumber` (Refused): the code's form of what the promises say by `checkNeeds` and `refusalOn`.
+-- What the engine is handed, and what "the tables fit" means. This is what a reader believes. Inner contracts, which no promise cites, are in it `Long` (Tables), `HasMark`, `mark`, `unmark` and `NoneBetween` (Visits) and `number`, `lentNumber` and `sentNumber` (Refused): the code's form of what the promises say by `checkNeeds` and `refusalOn`.
 pub mod Tables
 pub mod Keeping
 pub mod Numbers
 pub mod Marks
+pub mod Bits
 pub mod Visits
+pub mod Earlier
 pub mod Work
 pub mod Refused
 pub mod Fitting

@@ -14,7 +14,7 @@ use Rattle.gid.specs.Outcomes.{Outcome, refused, accepted, byNumber}
 use Rattle.tables.specs.declared.Graph.{Graph}
 use Rattle.tables.specs.declared.Status.{Status}
 use Rattle.tables.specs.declared.Status.the-variants.{Byte, Refused}
-use Rattle.tables.specs.Tables.{Tables, longEnough, nodesOf}
+use Rattle.tables.specs.Tables.{Tables, visitedLength, longEnoughBy, nodesOf}
 use Rattle.tables.specs.Marks.{hasClosed}
 use Rattle.tables.specs.Listing.{listedOn}
 
@@ -35,9 +35,12 @@ given g long full listed marks =
       closed = λ s. hasClosed (getD marks s 0);
     }
 
--- The number with which an update is refused on these tables, or none.
+-- The number with which an update is refused on these tables, or none, where the visited marks of some nodes take so many entries; and by the calls, whose marks are bits.
+abbrev pub refusalBy : (entries : ℕ → ℕ) → Graph → Tables → Update → Option ℕ
+refusalBy entries g t x = refusal (given g (longEnoughBy entries g t) (isFull g) (listedOn g t) (t .marks)) x
+
 abbrev pub refusalOn : Graph → Tables → Update → Option ℕ
-refusalOn g t x = refusal (given g (longEnough g t) (isFull g) (listedOn g t) (t .marks)) x
+refusalOn = refusalBy visitedLength
 
 -- An update that comes again, by the marks and by which steps are listed: a close of a closed state, or "a step equal in from, to and key to a listed one" (document 02, #102 and #103). It needs no place.
 unfoldable pub isAgain : Update → List ℕ → (Edge → Bool) → Bool

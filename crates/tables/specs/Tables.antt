@@ -2,7 +2,7 @@
 -- Assumes nothing.
 use mathlib.Core.Bool.{Bool, true, _&&_}
 use mathlib.Core.List.{List, [], _∷_}
-use Prim.Native.Nat.{ℕ, _+_, _≤_}
+use Prim.Native.Nat.{ℕ, _+_, _/_, _≤_}
 use lib.Dec.{leb}
 use lib.ListN.{length}
 use Rattle.tables.specs.declared.Graph.{Graph}
@@ -54,9 +54,9 @@ tablesOf status marks from to key successor news inHead outHead queue visited in
 abbrev pub nodesOf : Graph → ℕ
 nodesOf g = g .n
 
--- How many entries the visited marks of some nodes take: one for each node.
+-- How many entries the visited marks of some nodes take: a bit for each node, "n/16 (rounded up)" (document 02, #106).
 unfoldable pub visitedLength : ℕ → ℕ
-visitedLength nodes = nodes
+visitedLength nodes = (nodes + 15) / 16
 
 -- A table's length, and how many of its entries are needed.
 pub record Needed : Type 0 where
@@ -85,33 +85,46 @@ lengths t =
       «out_next» = length (t .outNext);
     }
 
--- The work tables, for the nodes of a search and a step limit: "together at most 4n + 4 × limit entries" (proofs/Sizes.antt).
-abbrev pub workNeeds : ℕ → ℕ → Lengths → List Needed
-workNeeds nodes limit l =
+-- The work tables, for the nodes of a search and a step limit, where the visited marks of some nodes take so many entries.
+abbrev pub workNeedsBy : (entries : ℕ → ℕ) → ℕ → ℕ → Lengths → List Needed
+workNeedsBy entries nodes limit l =
     record { have = l .«in_head»; need = nodes } ∷
     record { have = l .«out_head»; need = nodes } ∷
     record { have = l .queue; need = nodes } ∷
-    record { have = l .visited; need = visitedLength nodes } ∷
+    record { have = l .visited; need = entries nodes } ∷
     record { have = l .«in_next»; need = limit } ∷
     record { have = l .«out_next»; need = limit } ∷ []
 
 -- The tables that a table check is lent, for n states besides: all but the news list.
-abbrev pub checkNeeds : ℕ → ℕ → ℕ → Lengths → List Needed
-checkNeeds n nodes limit l =
+abbrev pub checkNeedsBy : (entries : ℕ → ℕ) → ℕ → ℕ → ℕ → Lengths → List Needed
+checkNeedsBy entries n nodes limit l =
     record { have = l .status; need = nodes } ∷
     record { have = l .marks; need = n } ∷
     record { have = l .from; need = limit } ∷
     record { have = l .to; need = limit } ∷
     record { have = l .key; need = limit } ∷
-    record { have = l .successor; need = nodes } ∷ workNeeds nodes limit l
+    record { have = l .successor; need = nodes } ∷ workNeedsBy entries nodes limit l
 
 -- An update is lent the news list besides.
-abbrev pub needs : ℕ → ℕ → ℕ → Lengths → List Needed
-needs n nodes limit l = record { have = l .news; need = n } ∷ checkNeeds n nodes limit l
+abbrev pub needsBy : (entries : ℕ → ℕ) → ℕ → ℕ → ℕ → Lengths → List Needed
+needsBy entries n nodes limit l = record { have = l .news; need = n } ∷ checkNeedsBy entries n nodes limit l
 
 -- Whether every table that an update is lent is long enough.
+abbrev pub longEnoughBy : (entries : ℕ → ℕ) → Graph → Tables → Bool
+longEnoughBy entries g t = enough (needsBy entries (g .n) (nodesOf g) (g .limit) (lengths t))
+
+-- So for the calls, whose marks are bits. The work tables: "at most 3n + 4 × limit + n/16 (rounded up) entries" (document 02, #106; proofs/Sizes.antt).
+abbrev pub workNeeds : ℕ → ℕ → Lengths → List Needed
+workNeeds = workNeedsBy visitedLength
+
+abbrev pub checkNeeds : ℕ → ℕ → ℕ → Lengths → List Needed
+checkNeeds = checkNeedsBy visitedLength
+
+abbrev pub needs : ℕ → ℕ → ℕ → Lengths → List Needed
+needs = needsBy visitedLength
+
 abbrev pub longEnough : Graph → Tables → Bool
-longEnough g t = enough (needs (g .n) (nodesOf g) (g .limit) (lengths t))
+longEnough = longEnoughBy visitedLength
 
 abbrev pub total : List Needed → ℕ
 total [] = 0

@@ -10,11 +10,14 @@ ghost use Rattle.tables.specs.Tables.{nodesOf};
 ghost use Rattle.tables.specs.Marks.{closesAgain};
 ghost use Rattle.tables.specs.Listing.{graphAfter};
 
+mod bitwise;
 mod entries;
 mod lengths;
 mod marks;
 mod visits;
 
+pub use bitwise::has_bit;
+pub use bitwise::with_bit;
 pub use entries::fill;
 pub use entries::fill_bytes;
 pub use entries::least;
@@ -32,10 +35,13 @@ pub use marks::with_terminal;
 pub use visits::clear_visited;
 pub use visits::is_visited;
 pub use visits::set_visited;
+pub use visits::skip_unvisited;
 pub use visits::visited_len;
 
 // "There are n states, numbered 0 to n−1, with n from 1 to 2,048."
 pub const MAX_STATES: usize = 2048;
+// How many entries the visited marks of so many states take.
+pub const MAX_VISITED: usize = (MAX_STATES + 15) / 16;
 // "The step limit is from 1 to 8,192."
 pub const MAX_STEPS: usize = 8192;
 // "Each step now carries a key, 0 to 31"

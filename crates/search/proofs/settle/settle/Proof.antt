@@ -2,8 +2,7 @@
 -- Assumes nothing.
 use Prim.Native.Nat.{_+_, _-_}
 use native.Mathlib.Omega.{arith}
-use Rattle.tables.proofs.Marking.{has-mark}
-use Rattle.search.proofs.Settling.{Settling, settling-first, settling-next, settling-last}
+use Rattle.search.proofs.Settling.{Settling, settling-first, settling-next, settling-mark, settling-skip, settling-last}
 use Rattle.search.proofs.settle.settle.Statement.{statement}
 use Rattle.search.proofs.settle.settle.Tie as tie
 
@@ -24,26 +23,30 @@ settle-node-requires c κs =
     let l = t .before in
     let p = l .before .before .before .before .before .pre in
     let i = l .loop .inv in
-    let v = i .visits .size in
-    (omega (arith, t .loop-test, p, i), omega (arith, t .loop-test, p, i), has-mark (l .before .before .before .before .before .args .span .high + 1) (l .loop .visited) (l .loop .s) (omega (arith, t .loop-test)) (omega (arith, v, p .3)), omega (arith, t .loop-test, p, i), omega (arith, t .loop-test, p, i))
+    (omega (arith, t .loop-test, p, i), omega (arith, t .loop-test, p, i), settling-mark i (p .3) (l .loop .s) (t .loop-test .taken), omega (arith, t .loop-test, p, i), omega (arith, t .loop-test, p, i))
 
-add-s : tie.Need-add-s Inv-loop μ-loop
-add-s c =
-    let t = c .before .before .before .before .before .before .before .before .before .before .before .before .before in
-    omega (arith, t .loop-test, t .before .before .before .before .before .before .pre)
-
-loop-less : tie.Need-loop-less Inv-loop μ-loop
-loop-less c =
-    let t = c .before .before .before .before .before .before .before .before .before .before .before .before .before in
-    omega (arith, t .loop-test)
-
-loop-again : tie.Need-loop-again Inv-loop μ-loop
-loop-again c =
-    let o = c .before .before .before .before .before .before .before .before in
+skip-unvisited-requires : tie.Need-skip-unvisited-requires Inv-loop μ-loop
+skip-unvisited-requires c κs =
+    let o = c .before .before .before .before .before .before .before .before .before in
     let t = o .before .before .before .before .before in
     let l = t .before in
     let p = l .before .before .before .before .before .pre in
-    settling-next (l .loop .inv) (t .loop-test .taken) (p .0) (p .1) (p .2) (p .3) (o .settle-node .ensures)
+    let next = settling-next (l .loop .inv) (t .loop-test .taken) (p .0) (p .1) (p .2) (p .3) (o .settle-node .ensures) in
+    (settling-mark next (p .3) (l .loop .s) (t .loop-test .taken), omega (arith, t .loop-test, p))
+
+loop-less : tie.Need-loop-less Inv-loop μ-loop
+loop-less c =
+    let t = c .before .before .before .before .before .before .before .before .before .before .before .before .before .before .before in
+    omega (arith, t .loop-test, c .skip-unvisited .ensures .0)
+
+loop-again : tie.Need-loop-again Inv-loop μ-loop
+loop-again c =
+    let o = c .before .before .before .before .before .before .before .before .before .before in
+    let t = o .before .before .before .before .before in
+    let l = t .before in
+    let p = l .before .before .before .before .before .pre in
+    let n = c .skip-unvisited .ensures in
+    settling-skip (settling-next (l .loop .inv) (t .loop-test .taken) (p .0) (p .1) (p .2) (p .3) (o .settle-node .ensures)) (n .0) (n .1)
 
 same-length : tie.Need-same-length Inv-loop μ-loop
 same-length c = c .before .loop .inv .statuses
@@ -68,7 +71,7 @@ settle-spec =
     μ-loop
     loop-holds
     settle-node-requires
-    add-s
+    skip-unvisited-requires
     loop-less
     loop-again
     same-length

@@ -2,9 +2,9 @@
 -- Assumes nothing.
 use mathlib.Core.Path.{refl}
 use borrow.Author.Needs.{needs}
-use Rattle.audit.specs.Bits.{hasBit}
-use Rattle.audit.proofs.bits.has_bit.Statement.{statement}
-use Rattle.audit.proofs.bits.has_bit.Tie as tie
+use Rattle.tables.specs.Bits.{hasBit}
+use Rattle.tables.proofs.bitwise.has_bit.Statement.{statement}
+use Rattle.tables.proofs.bitwise.has_bit.Tie as tie
 
 shr-result : tie.Need-shr-result
 shr-result c = search needs

@@ -2,9 +2,9 @@
 -- Assumes nothing.
 use mathlib.Core.Path.{sym, _∙_}
 use borrow.Author.Needs.{needs}
-use Rattle.audit.proofs.BitLaws.{with-new, with-old, bit-room, one-shift}
-use Rattle.audit.proofs.bits.with_bit.Statement.{statement}
-use Rattle.audit.proofs.bits.with_bit.Tie as tie
+use Rattle.tables.proofs.BitLaws.{with-new, with-old, bit-room, one-shift}
+use Rattle.tables.proofs.bitwise.with_bit.Statement.{statement}
+use Rattle.tables.proofs.bitwise.with_bit.Tie as tie
 
 has-bit-requires : tie.Need-has-bit-requires
 has-bit-requires c κs = search needs
