@@ -145,6 +145,12 @@ static void clear_visited(const Engine *e, size_t s)
     e->visited[s / 16] &= (uint16_t)~(1u << s % 16);
 }
 
+// The state behind s or, where no mark is set in its entry, the first of the next entry: none between is visited.
+static size_t skip_unvisited(const Engine *e, size_t s)
+{
+    return e->visited[s / 16] == 0 ? (s | 15) + 1 : s + 1;
+}
+
 // ---- the closure along steps backwards
 
 static int allowed(const Engine *e, Mode mode, size_t y, size_t p)
@@ -180,7 +186,7 @@ static Span spread(const Engine *e, Mode mode, size_t start)
 static size_t settle(const Engine *e, Span span, uint8_t verdict)
 {
     size_t count = 0;
-    for (size_t s = span.low; s <= span.high; s++) {
+    for (size_t s = span.low; s <= span.high; s = skip_unvisited(e, s)) {
         if (!is_visited(e, s)) continue;
         clear_visited(e, s);
         e->status[s] = verdict;

@@ -175,7 +175,7 @@ static void make_list(const Class *c, size_t size, int order, int ending, int nt
     }
 }
 
-// ---- the tables, the same memory for each engine
+// ---- the tables, the same memory for each engine; visited marks have an entry for each state, of which the naive engine alone uses all
 
 static uint8_t status[MAX_STATES], marks[MAX_STATES], key[MAX_STEPS];
 static uint16_t from[MAX_STEPS], to[MAX_STEPS], successor[MAX_STATES], news[MAX_STATES];
@@ -449,8 +449,8 @@ static uint32_t raw_step(update_call *update, uint32_t u, uint32_t v, uint32_t b
 {
     return update(tables.n, tables.limit, &tables.steps, 'E', u, v, by, tables.status, tables.n, tables.marks, tables.n, tables.from,
                   tables.limit, tables.to, tables.limit, tables.key, tables.limit, tables.successor, tables.n, tables.news, tables.n,
-                  tables.in_head, tables.n, tables.out_head, tables.n, tables.queue, tables.n, tables.visited, tables.n, tables.in_next,
-                  tables.limit, tables.out_next, tables.limit);
+                  tables.in_head, tables.n, tables.out_head, tables.n, tables.queue, tables.n, tables.visited, (tables.n + 15) / 16,
+                  tables.in_next, tables.limit, tables.out_next, tables.limit);
 }
 
 static uint32_t step_short(uint32_t u, uint32_t v, uint32_t by) { return radvoinis_step_by_key(&tables, u, v, by); }

@@ -7,7 +7,7 @@
 #include <stdint.h>
 
 enum { UNSEEN = 0, OPEN = 1, UNKNOWN = 2, LIVE = 3, DEAD = 4 };
-enum { MAX_STATES = 2048, MAX_STEPS = 8192, MAX_KEY = 31, NO_SUCCESSOR = 65535, REFUSED = 65536 };
+enum { MAX_STATES = 2048, MAX_VISITED = MAX_STATES / 16, MAX_STEPS = 8192, MAX_KEY = 31, NO_SUCCESSOR = 65535, REFUSED = 65536 };
 
 // The parameters of radvoinis_update, and the same as arguments.
 #define PARAMETERS                                                                                                              \
@@ -26,7 +26,7 @@ update_call baseline_update, clang_update, gcc3_update, counted_update;
 // Reads of a list's next entry, and of a successor, since it was last set to 0.
 extern unsigned long list_moves;
 
-// All verdicts worked out afresh after each update.
+// All verdicts worked out afresh after each update. Its visited marks take an entry for each state.
 update_call naive_update;
 
 // A step that settles nothing, on tables that are members of a struct.

@@ -19,7 +19,7 @@ static uint8_t input[65536], output[131072];
 
 static uint8_t status[MAX_STATES], marks[MAX_STATES], key[LIMIT];
 static uint16_t from[LIMIT], to[LIMIT], successor[MAX_STATES], news[MAX_STATES];
-static uint16_t in_head[MAX_STATES], out_head[MAX_STATES], queue[MAX_STATES], visited[MAX_STATES];
+static uint16_t in_head[MAX_STATES], out_head[MAX_STATES], queue[MAX_STATES], visited[MAX_VISITED];
 static uint16_t in_next[LIMIT], out_next[LIMIT];
 static size_t states = MAX_STATES, steps;
 
@@ -27,7 +27,7 @@ static uint32_t update(uint8_t kind, size_t first, size_t second, size_t by_key)
 {
     return baseline_update(states, LIMIT, &steps, kind, first, second, by_key, status, MAX_STATES, marks, MAX_STATES, from, LIMIT,
                            to, LIMIT, key, LIMIT, successor, MAX_STATES, news, MAX_STATES, in_head, MAX_STATES, out_head, MAX_STATES,
-                           queue, MAX_STATES, visited, MAX_STATES, in_next, LIMIT, out_next, LIMIT);
+                           queue, MAX_STATES, visited, MAX_VISITED, in_next, LIMIT, out_next, LIMIT);
 }
 
 // ---- lines

@@ -1,5 +1,5 @@
-// The naive engine: the same tables and the same call, every verdict worked out afresh by two searches over all states and steps after
-// each accepted update but a repeated step, which is looked for place by place.
+// The naive engine: the same tables (but an entry for each visited mark) and the same call, every verdict worked out afresh by two
+// searches over all states and steps after each accepted update but a repeated step, which is looked for place by place.
 #include "engines.h"
 
 typedef struct {

@@ -51,6 +51,7 @@ table() {
     row "demand 1" engine/Runs engine/Promise tables/Fitting tables/Refused
     row "demand 2" engine/Runs engine/Promise tables/Fitting gid/Statuses gid/News
     row "demand 3" engine/Runs tables/Fitting gid/Pruning
+    row "as on the earlier work tables" engine/Matching tables/Fitting tables/Earlier
     row "the twelve examples" gid/Examples
     row "dead in two forms" gid/Verdicts
     row '`Engine::update`' engine/Promise

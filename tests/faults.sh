@@ -2,7 +2,7 @@
 # Plants faults in the calls and the programs in plain C (the engine of bench/baseline.c; tests/calls.c, tests/lister.c and
 # tests/drawer.c over the naive definitions; the short calls of c/tables.c), one at a time, and runs the suite that must catch them on
 # each, shortened: it must, and each suite must pass what has no fault. With names of suites as arguments, those faults alone; with
-# --few, twenty-three of all suites. All take about fifteen minutes, the few one. The last line is 'N passed, M failed'.
+# --few, twenty-six of all suites. All take about fifteen minutes, the few one. The last line is 'N passed, M failed'.
 set -u
 cd "$(dirname "$0")/.." || exit 2
 . tests/suites.sh
@@ -108,8 +108,11 @@ fault "an unseen state stays unseen" 's/    if (e->status\[s\] == UNSEEN) e->sta
 fault "a closed state has no verdict until the next update" "$(within find_dead 's/return settle(e, span, DEAD);/settle(e, span, DEAD); return 0;/')"
 
 # news
-fault "news falling" 's/for (size_t s = span.low; s <= span.high; s++) {/for (size_t s = span.high + 1; s-- > span.low;) {/'
-fault "last news missing" 's/s <= span.high; s++/s < span.high; s++/'
+fault "news falling" 's/for (size_t s = span.low; s <= span.high; s = skip_unvisited(e, s)) {/for (size_t s = span.high + 1; s-- > span.low;) {/'
+fault "last news missing" "$(within settle 's/s <= span.high/s < span.high/')"
+fault "an entry of visited marks is left behind the first of them" "$(within skip_unvisited 's/ == 0 ?/ >= 0 ?/')"
+fault "the first state behind an entry without marks is passed over" "$(within skip_unvisited 's/(s | 15) + 1/(s | 15) + 2/')"
+fault "two entries are passed over where one has no mark" "$(within skip_unvisited 's/(s | 15)/(s | 31)/')"
 fault "greatest state forgotten" 's/y > span.high ? y : span.high/span.high/'
 fault "writes behind the news" "$(within settle 's/return count;/if (count < e->n) e->news[count] = 0; return count;/')"
 fault "one news too many" "$(within settle 's/return count;/return count > 1 ? count + 1 : count;/')"

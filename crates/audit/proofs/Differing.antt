@@ -13,20 +13,20 @@ use borrow.Author.Count.{below-more}
 use borrow.Author.Tests.{leb-true}
 use Rattle.gid.specs.Systems.{Arcs}
 use Rattle.gid.specs.Refusals.{maxKey}
+use Rattle.tables.specs.Bits.{hasBit, withBit}
 use Rattle.tables.specs.Fitting.{AllBelow}
 use Rattle.tables.specs.Keeping.{Kept, filled}
 use Rattle.tables.specs.Listing.{Distinct}
 use Rattle.tables.specs.Work.{ListRule}
+use Rattle.tables.proofs.BitLaws.{bit-same, bit-other, bit-grows, bit-none}
 use Rattle.tables.proofs.Keeping.{kept-none, kept-trans, kept-set}
 use Rattle.adjacency.specs.Walks.{firstAt, nextAt, Meets, Linked}
 use Rattle.adjacency.proofs.Walks.{clamp-below, meets-step, meets-inside, linked}
 use Rattle.search.specs.Spreading.{Chains, chains, into}
 use Rattle.search.proofs.Walking.{Walking, walk-first, walk-here, walk-next, walk-end, walk-done, linked-inside}
-use Rattle.tables.specs.Bits.{hasBit, withBit}
 use Rattle.audit.specs.Facts.{All, keyFits}
 use Rattle.audit.specs.Parts.{Below, KeyIn, Noted, outside, again, new, Apart, ApartAll, ApartKeys, FromSources, SourcesNoted, Differ}
 use Rattle.audit.proofs.Chaining.{emptied}
-use Rattle.tables.proofs.BitLaws.{bit-same, bit-other, bit-grows, bit-none}
 
 -- An entry after a store at u: the value that was stored, or as it was.
 stored : (seen : List ℕ) (u x w : ℕ) → u < length seen → ((w ≡ u) × (getD (set seen u x) w 0 ≡ x)) ⊎ ((w ≡ u → ⊥) × (getD (set seen u x) w 0 ≡ getD seen w 0))

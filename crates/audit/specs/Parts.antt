@@ -10,6 +10,7 @@ use Rattle.gid.specs.Statuses.{statusUnknown, statusLive}
 use Rattle.gid.specs.Systems.{Arcs}
 use Rattle.tables.specs.Tables.{Tables}
 use Rattle.tables.specs.Work.{ListRule, lastBefore}
+use Rattle.tables.specs.Bits.{hasBit, withBit}
 use Rattle.tables.specs.Visits.{NoneVisited, marked}
 use Rattle.tables.specs.Fitting.{AllBelow}
 use Rattle.tables.specs.Keeping.{Kept, KeptVisited}
@@ -18,7 +19,6 @@ use Rattle.search.specs.declared.spread.Span.{Span}
 use Rattle.search.specs.Spreading.{Before, Queued}
 use Rattle.search.specs.Offering.{Admitted}
 use Rattle.audit.specs.Facts.{Passes, Backs, TableFacts}
-use Rattle.tables.specs.Bits.{hasBit, withBit}
 
 -- The ends of the first m steps are states.
 abbrev pub Below : ℕ → ℕ → List ℕ → Type 0

@@ -21,7 +21,8 @@ use Rattle.engine.specs.declared.Answer.{Answer}
 use Rattle.engine.specs.declared.Answer.the-variants.{Accepted, Refused}
 use Rattle.engine.specs.Answers.{newsOf, answerOutcome}
 use Rattle.engine.specs.Promise.{PromiseBy}
-use Rattle.engine.specs.Runs.{RunBy, Run, begun, accepted, refused, SameStatuses, Matches}
+use Rattle.engine.specs.Runs.{RunBy, Run, begun, accepted, refused}
+use Rattle.engine.specs.Matching.{SameStatuses, Matches}
 use Rattle.engine.proofs.Running.{was-accepted, SoundBy, sound-by, sound-checked}
 use Rattle.engine.proofs.Replay.{replay}
 

@@ -2,7 +2,7 @@
 -- Assumes nothing.
 use mathlib.Core.Path.{_≡_}
 use mathlib.Core.List.{List, [], _∷_}
-use Prim.Native.Nat.{ℕ, _<_}
+use Prim.Native.Nat.{ℕ}
 use lib.ListN.{getD}
 use Rattle.gid.specs.declared.Update.{Update}
 use Rattle.gid.specs.Histories.{History, IsNamed}
@@ -39,18 +39,3 @@ Agree (accepted {t′ = f} full s x k o) (keep _ c) (accepted {h = q} {t′ = p}
     Agree full c thin × (newsOf (Accepted k) (f .news) ≡ newsOf (Accepted j) (p .news)) × ((r : ℕ) → IsNamed (x ∷ q) r → getD (f .status) r 0 ≡ getD (p .status) r 0)
 Agree (accepted full s x k o) (keep _ c) (refused thin _ _ j _) = ⊥
 Agree (accepted {t′ = f} full s x k o) (leave _ l c) thin = Agree full c thin × (newsOf (Accepted k) (f .news) ≡ [])
-
--- The first n states have the same statuses in both tables.
-abbrev pub SameStatuses : ℕ → Tables → Tables → Type 0
-SameStatuses n t t′ = (s : ℕ) → s < n → getD (t .status) s 0 ≡ getD (t′ .status) s 0
-
--- Two runs of the same updates, with visited marks of any two forms: each update has the same answer and the same news in both, and after it each of n states has the same status.
-abbrev pub Matches :
-    (n : ℕ) {one other : Marking} {g₀ g₁ g g′ : Graph} {t₀ t₁ t t′ : Tables} {xs : List Update} {h q : History} →
-    RunBy one g₀ t₀ xs h g t → RunBy other g₁ t₁ xs q g′ t′ → Type 0
-Matches n begun begun = Unit {0}
-Matches n (accepted {t′ = a} first c x k p) (accepted {t′ = b} second _ _ j _) =
-    Matches n first second × (k ≡ j) × (newsOf (Accepted k) (a .news) ≡ newsOf (Accepted j) (b .news)) × SameStatuses n a b
-Matches n (refused {t′ = a} first c x k p) (refused {t′ = b} second _ _ j _) = Matches n first second × (k ≡ j) × SameStatuses n a b
-Matches n (accepted first c x k p) (refused second _ _ j _) = ⊥
-Matches n (refused first c x k p) (accepted second _ _ j _) = ⊥
