@@ -18,14 +18,15 @@
    Calls are reentrant. They keep nothing between them: no heap, no global, no lock. Threads may call at the same time on different
    tables, and on the same ones where every such call takes them as const.
 
-   Stack: radvoinis_status takes 48 KiB, since its tables are local; every other call less than 1 KiB.
+   Stack: radvoinis_status takes 44 KiB, since its tables are local; every other call less than 1 KiB.
 
    Cost: a step is looked for among a few out of its source and, where it is none of them, in the whole list, many entries at a time:
    a repeat is mostly found at once, a new step reads the list. Beyond that a step or a terminal mark that makes nothing live takes
-   constant time; one that does walks the steps into each state that it makes live, once, and looks at the numbers between the least
-   and the greatest of them. A close looks at the steps out of its state, and at no more than 17 states along each; where it meets no
-   open state there, it searches the unknown states whose way out led through it, with their steps, at the very most all states and
-   steps. Tens of nanoseconds an update, and for a new step behind thousands of others some hundreds: bench/RESULTS.md. */
+   constant time; one that does walks the steps into each state that it makes live, once, and looks over the numbers between the least
+   and the greatest of them, sixteen at a time where it makes none of them live. A close looks at the steps out of its state, and at no
+   more than 17 states along each; where it meets no open state there, it searches the unknown states whose way out led through it,
+   with their steps, at the very most all states and steps. Tens of nanoseconds an update, and for a new step behind thousands of
+   others some hundreds: bench/RESULTS.md. */
 #ifndef RADVOINIS_H
 #define RADVOINIS_H
 

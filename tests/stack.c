@@ -7,7 +7,7 @@
 #include <string.h>
 #include <ucontext.h>
 
-enum { STACK = 1 << 18, PAINT = 0xa5, STATUS_STACK = 48 << 10, OTHER_STACK = 1 << 10 };
+enum { STACK = 1 << 18, PAINT = 0xa5, STATUS_STACK = 44 << 10, OTHER_STACK = 1 << 10 };
 
 static unsigned char *stack;
 static ucontext_t caller, callee;

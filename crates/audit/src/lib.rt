@@ -16,8 +16,8 @@ pub use answer::Audit;
 use tables::Graph;
 use tables::Lengths;
 
-// Tests 1 to 4, and then says whether the tables fit, in time O(n + steps). It writes the queue and the visited marks alone, below n, and
-// after a yes no state is marked visited. The news list is not lent: the promise holds with any.
+// Tests 1 to 4, and then says whether the tables fit, in time O(n + steps). It writes the needed entries of the queue and of the visited
+// marks alone, and after a yes no state is marked visited. The news list is not lent: the promise holds with any.
 pub fn audit(
     graph: Graph,
     status: &[u8],

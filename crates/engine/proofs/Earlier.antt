@@ -14,7 +14,7 @@ use Rattle.tables.specs.declared.lengths.Lengths.{Lengths}
 use Rattle.tables.specs.Tables.{Tables, enough, needsBy, longEnoughBy}
 use Rattle.tables.specs.Visits.{Marking}
 use Rattle.tables.specs.Earlier.{byEntry}
-use Rattle.tables.specs.Fitting.{FreshBy, Fresh}
+use Rattle.tables.specs.Fitting.{CheckedBy, FreshBy, Fresh}
 use Rattle.tables.proofs.Marking.{ClearAtZero, zeros-unvisited, zeros-unvisited-earlier}
 use Rattle.tables.proofs.Sizes.{news-enough, earlier-enough}
 use Rattle.engine.specs.declared.Answer.{Answer}
@@ -43,13 +43,21 @@ module _
     {one other : Marking} {g₀ g₁ : Graph} {t₀ t₁ : Tables} (clear₀ : ClearAtZero one) (clear₁ : ClearAtZero other) (fresh₀ : FreshBy one g₀ t₀) (fresh₁ : FreshBy other g₁ t₁)
     (states : g₁ .n ≡ g₀ .n) (limits : g₁ .limit ≡ g₀ .limit) (long₀ : longEnoughBy (one .entries) g₀ t₀ ≡ true) (long₁ : longEnoughBy (other .entries) g₁ t₁ ≡ true)
   where
-    -- after the same history
-    module _ {h q : History} {g g′ : Graph} {t t′ : Tables} (e : q ≡ h) (s : SoundBy one g₀ t₀ h g t) (s′ : SoundBy other g₁ t₁ q g′ t′) where
+    -- Two runs of the same updates and the same history so far.
+    module _ {xs : List Update} {h q : History} {g g′ : Graph} {t t′ : Tables} (first : RunBy one g₀ t₀ xs h g t) (second : RunBy other g₁ t₁ xs q g′ t′) (e : q ≡ h) where
       same-statuses : SameStatuses (g₀ .n) t t′
-      same-statuses r l = s .fits .status r (rw (s .states) l) ∙ sym (rw e at (s′ .fits .status r (rw (s′ .states, states) l)))
+      same-statuses r l =
+          let s = sound-by clear₀ fresh₀ first in
+          let s′ = sound-by clear₁ fresh₁ second in
+          s .fits .status r (rw (s .states) l) ∙ sym (rw e at (s′ .fits .status r (rw (s′ .states, states) l)))
 
-      same-told : {g₂ g₂′ : Graph} {t₂ t₂′ : Tables} {a b : Answer} (x : Update) → PromiseBy one g x t g₂ a t₂ → PromiseBy other g′ x t′ g₂′ b t₂′ → answerOutcome a (t₂ .news) ≡ answerOutcome b (t₂′ .news)
-      same-told x p o = told s long₀ x p ∙ sym (rw (e, states, limits) at (told s′ long₁ x o))
+      -- What comes of the next update, with a table check before it or none.
+      module _ {g₂ g₂′ : Graph} {t₂ t₂′ t₃ t₃′ : Tables} (c : CheckedBy one g t t₂) (d : CheckedBy other g′ t′ t₂′) (x : Update) where
+        same-told : {a b : Answer} → PromiseBy one g x t₂ g₂ a t₃ → PromiseBy other g′ x t₂′ g₂′ b t₃′ → answerOutcome a (t₃ .news) ≡ answerOutcome b (t₃′ .news)
+        same-told p o = told (sound-checked (sound-by clear₀ fresh₀ first) c) long₀ x p ∙ sym (rw (e, states, limits) at (told (sound-checked (sound-by clear₁ fresh₁ second) d) long₁ x o))
+
+        same-count : {k j : ℕ} → PromiseBy one g x t₂ g₂ (Accepted k) t₃ → PromiseBy other g′ x t₂′ g₂′ (Accepted j) t₃′ → newsOf (Accepted k) (t₃ .news) ≡ newsOf (Accepted j) (t₃′ .news) → k ≡ j
+        same-count p o w = sym (counted (sound-checked (sound-by clear₀ fresh₀ first) c) long₀ p) ∙ ap length w ∙ counted (sound-checked (sound-by clear₁ fresh₁ second) d) long₁ o
 
     pub matches :
         {xs : List Update} {h q : History} {g g′ : Graph} {t t′ : Tables} (first : RunBy one g₀ t₀ xs h g t) (second : RunBy other g₁ t₁ xs q g′ t′) →
@@ -57,21 +65,19 @@ module _
     matches begun begun = (refl, tt)
     matches (accepted {t′ = t} first c x k p) (accepted {t′ = t′} second d y j o) =
         let i = matches first second in
-        let s = sound-checked (sound-by clear₀ fresh₀ first) c in
-        let s′ = sound-checked (sound-by clear₁ fresh₁ second) d in
-        let e = same-told (i .0) s s′ x p o in
+        let e = same-told first second (i .0) c d x p o in
         let w : newsOf (Accepted k) (t .news) ≡ newsOf (Accepted j) (t′ .news) = cc in
         let z = ap (λ (f : History). x ∷ f) (i .0) in
-        (z, (i .1, sym (counted s long₀ p) ∙ ap length w ∙ counted s′ long₁ o, w, same-statuses z (sound-by clear₀ fresh₀ (accepted first c x k p)) (sound-by clear₁ fresh₁ (accepted second d y j o))))
+        (z, (i .1, same-count first second (i .0) c d x p o w, w, same-statuses (accepted first c x k p) (accepted second d y j o) z))
     matches (refused first c x k p) (refused second d y j o) =
         let i = matches first second in
-        let e = same-told (i .0) (sound-checked (sound-by clear₀ fresh₀ first) c) (sound-checked (sound-by clear₁ fresh₁ second) d) x p o in
-        (i .0, (i .1, cc, same-statuses (i .0) (sound-by clear₀ fresh₀ (refused first c x k p)) (sound-by clear₁ fresh₁ (refused second d y j o))))
+        let e = same-told first second (i .0) c d x p o in
+        (i .0, (i .1, cc, same-statuses (refused first c x k p) (refused second d y j o) (i .0)))
     matches (accepted first c x k p) (refused second d y j o) =
-        let e = same-told (matches first second .0) (sound-checked (sound-by clear₀ fresh₀ first) c) (sound-checked (sound-by clear₁ fresh₁ second) d) x p o in
+        let e = same-told first second (matches first second .0) c d x p o in
         absurd (let z : _≡_ {A = ℕ} 0 1 = cc in omega arith)
     matches (refused first c x k p) (accepted second d y j o) =
-        let e = same-told (matches first second .0) (sound-checked (sound-by clear₀ fresh₀ first) c) (sound-checked (sound-by clear₁ fresh₁ second) d) x p o in
+        let e = same-told first second (matches first second .0) c d x p o in
         absurd (let z : _≡_ {A = ℕ} 0 1 = cc in omega arith)
 
 -- "For histories on fresh tables long enough for the old lengths too, answers, news and statuses match those of the earlier work tables": any list of updates, refused ones among them, with table checks in between.

@@ -13,7 +13,7 @@ pub struct Lengths {
     pub in_head: usize,
     pub out_head: usize,
     pub queue: usize,
-    // A mark for each node.
+    // A bit for each node.
     pub visited: usize,
     // An entry for each step of the limit.
     pub from: usize,
