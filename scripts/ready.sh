@@ -66,8 +66,10 @@ if [ "$left" -gt 0 ]; then
         prove "$left" rt staticlib "$crate"
         echo "proved $crate for the library, $((SECONDS - began)) s; ${left/#0/none} left"
         (cd target/lib && ar x "../staticlib/lib$crate.a" "$crate.o")
+        # Aligned, or the time of a new step turns on where the linker happens to put the loop over the step list, by up to a third; and
+        # that of a short call, below, by up to a quarter.
+        objcopy --set-section-alignment '.text.radvoinis_*=64' "target/lib/$crate.o"
     done
-    # Aligned, or the time of a short call turns on where the linker happens to put it, by up to a quarter.
     gcc -std=c11 -O2 -fPIC -falign-functions=64 -Wall -Wextra -Werror -Iinclude -c c/tables.c -o target/lib/tables.o
     ar rcsD "$library" target/lib/*.o
     stamp >"$library.stamp"
