@@ -464,6 +464,7 @@ static void damage_visited(Lent *l)
     check(CHECK_VISITED, fit(l) == 1);
 }
 
+// The last ten runs may have up to 2,048 states.
 static void group_visited(void)
 {
     for (size_t i = 1; i <= 80 && !failed; i++) {

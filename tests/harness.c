@@ -536,7 +536,7 @@ static void group_around_full_entries(void)
         size_t n = around_full_entries(i), limit = n + below(3 * n);
         progress(i, rounds(400));
         if (i % 4 == 3) pruned_run(n, limit, 3 * n);
-        else large_run(&full, i / 4, n, limit < MOST_STEPS ? limit : MOST_STEPS);
+        else large_run(&full, i / 4, n, limit);
     }
 }
 

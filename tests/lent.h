@@ -39,7 +39,7 @@ Tables lent_tables(const Lent *l);
 size_t lent_width(Name k);
 size_t lent_needed(const Lent *l, Name k);
 
-// The bits of the last entry of visited that are no state's: as many as there are.
+// The bits of the last needed entry of visited that are no state's.
 uint16_t lent_spare_bits(const Lent *l);
 
 // Whether the tables that a call is lent are long enough; a set of tables has the bit 1 << k for table k.
