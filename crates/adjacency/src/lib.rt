@@ -1,5 +1,7 @@
 // Where a state's steps are: for each state, the steps into it and the steps out of it, chained by falling index in work tables.
 // An entry is 1 + the index of a step, or 0 where the chain ends. On tables with any contents a walk falls and stays inside.
+#![tactic(auto)]
+
 ghost use Rattle.std.specs.Prelude.{◌≡◌, ◌+◌, ◌-◌, ◌≤◌, ◌<◌, length};
 ghost use Rattle.adjacency.specs.Walks.{clamp, first_at, next_at, Pushed};
 

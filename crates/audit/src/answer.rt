@@ -1,6 +1,6 @@
 // What the table check answers.
 
-#[derive(Drop)]
+#[derive(Clone, Copy)]
 pub enum Audit {
     // Some legal history gives these tables.
     Fits,

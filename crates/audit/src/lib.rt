@@ -1,4 +1,6 @@
 // The table check: whether stored tables can be trusted.
+#![tactic(auto)]
+
 ghost use Rattle.std.specs.Prelude.{List, ℕ};
 ghost use Rattle.tables.specs.Tables.{tables_of};
 ghost use Rattle.audit.specs.Audited.{Audited};

@@ -1,4 +1,6 @@
 // The calls for C and Rust: thin exports of the library's calls, with the same numbers. include/radvoinis.h declares them.
+#![tactic(auto)]
+
 ghost use Rattle.std.specs.Prelude.{◌≡◌, List, ℕ, ◌+◌, ◌≤◌, cond, leb, length};
 ghost use Rattle.std.proofs.Math.Option.{some};
 ghost use Rattle.gid.specs.Refusals.{max_states};
@@ -20,7 +22,7 @@ use writer::Written;
 const REFUSED: u32 = 65536;
 
 // The update that a kind byte, two states and a key say, or none.
-#[derive(Drop)]
+#[derive(Clone, Copy)]
 enum Kind {
     Known(Update),
     Unknown,

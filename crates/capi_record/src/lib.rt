@@ -1,4 +1,6 @@
 // The call for C on a record's bytes. It stands apart from the calls on lent tables, so that in the compiled code of each the engine's update has one place of call: the compiler then makes one function of it all. include/radvoinis.h declares it.
+#![tactic(auto)]
+
 ghost use Rattle.std.specs.Prelude.{◌≡◌};
 ghost use Rattle.query.specs.Answering.{answer_of};
 

@@ -1,4 +1,6 @@
 // The drawing program: reads a record on standard input, and writes the picture of where it ends to standard output. What is read and written next, and when it is over, the library decides.
+#![tactic(auto)]
+
 ghost use Rattle.std.specs.Prelude.{◌≡◌, true, ◌≤◌, length};
 ghost use Rattle.std.proofs.Math.Option.{none};
 ghost use Rattle.tables.specs.Tables.{tables_of};
@@ -16,7 +18,7 @@ use tables::{MAX_STATES, MAX_VISITED};
 const INPUT: usize = 65536;
 
 // Where a drawing ended, and whether its last text was written.
-#[derive(Drop)]
+#[derive(Clone, Copy)]
 struct DrawingEnd {
     drawer: Drawer,
     over: bool,

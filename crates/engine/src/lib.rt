@@ -1,4 +1,6 @@
 // The update: steps, terminal marks and closes on the caller's tables.
+#![tactic(auto)]
+
 ghost use Rattle.std.specs.Prelude.{◌≡◌, length, take, leb, cond, []};
 ghost use Rattle.tables.specs.Tables.{tables_of};
 ghost use Rattle.engine.specs.Promise.{Promise};
@@ -9,20 +11,20 @@ use gid::Update;
 use tables::{Graph, Lengths, place_number};
 
 // What an update answers: accepted, with the number of its news, or refused, with document 01's number.
-#[derive(Drop)]
+#[derive(Clone, Copy)]
 pub enum Answer {
     Accepted(usize),
     Refused(u8),
 }
 
 // The state value of document 01, as the one whose updates run on the caller's tables.
-#[derive(Drop)]
+#[derive(Clone, Copy)]
 pub struct Engine {
     pub graph: Graph,
 }
 
 // The new state value beside the answer.
-#[derive(Drop)]
+#[derive(Clone, Copy)]
 pub struct Updated {
     pub engine: Engine,
     pub answer: Answer,

@@ -15,7 +15,7 @@ use record::{put_bytes_at, put_number_at, put_update};
 pub const ROOM: usize = 16384;
 
 // The place after the lines of some histories, and their number.
-#[derive(Drop)]
+#[derive(Clone, Copy)]
 struct Enumerated {
     end: usize,
     count: usize,

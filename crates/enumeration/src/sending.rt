@@ -8,7 +8,7 @@ use engine::Engine;
 use tables::{Graph, NO_SUCCESSOR};
 
 // The statuses of the two states, read from the engine's status table.
-#[derive(Drop)]
+#[derive(Clone, Copy)]
 pub struct StatusPair {
     pub first: u8,
     pub second: u8,

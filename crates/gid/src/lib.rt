@@ -1,7 +1,8 @@
 // The definitions of the verdict engine: what an update, a history and a verdict are. The definitions stand in specs/, the laws about them in proofs/.
+#![tactic(auto)]
 
 // A step: from one state to another, or to itself, by a key. Two that differ only in key are two steps.
-#[derive(Drop)]
+#[derive(Clone, Copy)]
 pub struct Edge {
     pub from: usize,
     pub to: usize,
@@ -9,7 +10,7 @@ pub struct Edge {
 }
 
 // What the explorer sends (document 01: an update).
-#[derive(Drop)]
+#[derive(Clone, Copy)]
 pub enum Update {
     // `E from to key`: a step.
     Step { edge: Edge },

@@ -1,4 +1,6 @@
 // The program that lists every small history on standard output. What it writes the library decides.
+#![tactic(auto)]
+
 ghost use Rattle.std.specs.Prelude.{◌≡◌, ◌≤◌, length, take};
 ghost use Rattle.enumeration.specs.Lines.{enumeration_text, enumeration_room};
 

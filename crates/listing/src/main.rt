@@ -1,4 +1,6 @@
 // The listing program: reads a record on standard input, and writes its listing to standard output. What is read and written next, and when it is over, the library decides.
+#![tactic(auto)]
+
 ghost use Rattle.std.specs.Prelude.{◌≡◌, true, ◌≤◌, length};
 ghost use Rattle.std.proofs.Math.Option.{none};
 ghost use Rattle.tables.specs.Tables.{tables_of};
@@ -18,7 +20,7 @@ const INPUT: usize = 65536;
 const OUTPUT: usize = 131072;
 
 // Where a listing ended, and whether its last text was written.
-#[derive(Drop)]
+#[derive(Clone, Copy)]
 struct ListingEnd {
     lister: Lister,
     over: bool,

@@ -12,7 +12,7 @@ use reader::{Opened, RECORD_LIMIT, Reader, Task, Until, piece_or};
 use tables::{Graph, MAX_STATES, MAX_STEPS};
 
 // Where a drawing stands: the reader, the place after the text in the output, and what the caller is to do.
-#[derive(Drop)]
+#[derive(Clone, Copy)]
 pub struct Drawer {
     pub reader: Reader,
     pub end: usize,

@@ -1,4 +1,6 @@
 // The status of a state after a record, on lent tables: the call for C answers this.
+#![tactic(auto)]
+
 ghost use Rattle.std.specs.Prelude.{◌≡◌, ◌≤◌};
 ghost use Rattle.tables.specs.Tables.{tables_of};
 ghost use Rattle.query.specs.Answering.{StatusAfter, out_of_range, head_refusal, refused_or, Few};

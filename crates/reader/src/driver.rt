@@ -12,7 +12,7 @@ use record::{BAD_COUNT, BAD_NAMES, Item, MALFORMED, MAX_LINES, TOO_MANY_LINES};
 use tables::Graph;
 
 // What comes of a line, with its number: it is accepted with a number of news, or refused with document 01's number; or no line has ended.
-#[derive(Drop)]
+#[derive(Clone, Copy)]
 pub enum LineAnswer {
     Nothing,
     Accepted { line: usize, count: usize },
@@ -20,7 +20,7 @@ pub enum LineAnswer {
 }
 
 // What a reader waits for.
-#[derive(Drop)]
+#[derive(Clone, Copy)]
 pub enum Until {
     // A line that has news or is refused.
     News,
@@ -31,7 +31,7 @@ pub enum Until {
 }
 
 // The reader after some bytes of a part, what came of the last line, and the index after it.
-#[derive(Drop)]
+#[derive(Clone, Copy)]
 pub struct Turn {
     pub reader: Reader,
     pub answer: LineAnswer,

@@ -1,4 +1,6 @@
 // The reader: makes the lent tables fresh, and applies the updates of a record line by line. The record comes in parts of any length, or whole.
+#![tactic(auto)]
+
 ghost use Rattle.std.specs.Prelude.{◌≡◌, drop};
 ghost use Rattle.tables.specs.Tables.{tables_of};
 ghost use Rattle.record.specs.Splitting.{started};
@@ -19,14 +21,14 @@ pub use task::{Task, piece_or};
 pub const RECORD_LIMIT: usize = 2048;
 
 // The reader's state: where it stands in the record, and the engine's state value.
-#[derive(Drop)]
+#[derive(Clone, Copy)]
 pub struct Reader {
     pub splitter: Splitter,
     pub engine: Engine,
 }
 
 // What reading a whole record answers.
-#[derive(Drop)]
+#[derive(Clone, Copy)]
 pub enum ReadAnswer {
     // The number of the test 2 or 3: nothing was read.
     Refused(u8),

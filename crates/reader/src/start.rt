@@ -6,7 +6,7 @@ use engine::Engine;
 use tables::{Graph, Lengths, MAX_STATES, NO_SUCCESSOR, fill, fill_bytes, visited_len};
 
 // The state value of the fresh tables, or the number of a refusal.
-#[derive(Drop)]
+#[derive(Clone, Copy)]
 pub enum Opened {
     Ready(Engine),
     Refused(u8),

@@ -3,7 +3,7 @@ ghost use Rattle.std.specs.Prelude.{◌≡◌};
 ghost use Rattle.reader.specs.Pieces.{piece_or};
 
 // What the program does next. It hands bytes on.
-#[derive(Drop)]
+#[derive(Clone, Copy)]
 pub enum Task {
     // Read the next piece of the input, an empty one at its end, and call with it.
     Read,

@@ -13,35 +13,35 @@ use tables::MAX_STATES;
 const MAX_VALUE: usize = 65535;
 
 // What a line is.
-#[derive(Drop)]
+#[derive(Clone, Copy)]
 pub enum Parsed {
     Update(Update),
     Malformed,
 }
 
 // The count of a record's states, where a line is one.
-#[derive(Drop)]
+#[derive(Clone, Copy)]
 pub enum Count {
     Of(usize),
     Malformed,
 }
 
 // A byte as a digit.
-#[derive(Drop)]
+#[derive(Clone, Copy)]
 enum Digit {
     Of(usize),
     Other,
 }
 
 // A value with the index after it.
-#[derive(Drop)]
+#[derive(Clone, Copy)]
 enum Value {
     Number { number: usize, next: usize },
     Malformed,
 }
 
 // The index after a byte that was asked for.
-#[derive(Drop)]
+#[derive(Clone, Copy)]
 enum After {
     At(usize),
     Malformed,

@@ -1,4 +1,6 @@
 // The record: the line buffer, the grammar of a line, the splitter that is fed a record's bytes, and the text of numbers and lines.
+#![tactic(auto)]
+
 mod grammar;
 mod line;
 mod splitter;

@@ -5,13 +5,13 @@ ghost use Rattle.record.specs.Items.{same};
 ghost use Rattle.record.specs.Buffer.{empty_line, filled_from, is_names_in, is_states_in};
 
 // The two forms of a record, by its names line: `kind from to`, and `kind from to key`.
-#[derive(Drop)]
+#[derive(Clone, Copy)]
 pub enum Form {
     Plain,
     Keyed,
 }
 
-#[derive(Drop)]
+#[derive(Clone, Copy)]
 pub struct Line {
     // The line's bytes, the first 16 of them.
     pub bytes: [u8; 16],
@@ -20,7 +20,7 @@ pub struct Line {
 }
 
 // A line with the index of the newline, or of the end, that it was filled up to.
-#[derive(Drop)]
+#[derive(Clone, Copy)]
 pub struct Filled {
     pub line: Line,
     pub next: usize,

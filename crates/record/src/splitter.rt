@@ -24,14 +24,14 @@ pub const BAD_COUNT: u8 = 17;
 pub const MAX_LINES: usize = 65535;
 
 // "A line that has been read is kept as its line number with one of the three kinds of update."
-#[derive(Drop)]
+#[derive(Clone, Copy)]
 pub struct Numbered {
     pub line: usize,
     pub update: Update,
 }
 
 // What the bytes fed make known.
-#[derive(Drop)]
+#[derive(Clone, Copy)]
 pub enum Item {
     // No line has ended, or reading has stopped.
     Nothing,
@@ -49,7 +49,7 @@ pub enum Item {
 }
 
 // Where a line stands: in the head of a record, or behind it.
-#[derive(Drop)]
+#[derive(Clone, Copy)]
 pub enum Phase {
     // Line 1: `states`, or the names line.
     First,
@@ -61,7 +61,7 @@ pub enum Phase {
     Further(Form),
 }
 
-#[derive(Drop)]
+#[derive(Clone, Copy)]
 pub struct Splitter {
     // The line so far.
     pub line: Line,
@@ -74,14 +74,14 @@ pub struct Splitter {
 }
 
 // The splitter comes back beside what is known.
-#[derive(Drop)]
+#[derive(Clone, Copy)]
 struct Fed {
     pub splitter: Splitter,
     pub item: Item,
 }
 
 // The same, with the index up to which bytes were fed.
-#[derive(Drop)]
+#[derive(Clone, Copy)]
 pub struct Advanced {
     pub splitter: Splitter,
     pub item: Item,

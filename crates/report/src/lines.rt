@@ -12,7 +12,7 @@ use reader::{LineAnswer, Reader, Until};
 pub const LINE_ROOM: usize = 34816;
 
 // The reader after some bytes of a part, the index after them, and the place after what was written.
-#[derive(Drop)]
+#[derive(Clone, Copy)]
 pub struct LinesEnd {
     pub reader: Reader,
     pub next: usize,

@@ -15,7 +15,7 @@ use tables::{Graph, MAX_STATES, least};
 const LISTER_ROOM: usize = LINE_ROOM + TOTALS_ROOM;
 
 // Where a listing stands: the reader, the index in the piece from which on it is to be read, the place after the text in the output, and what the caller is to do.
-#[derive(Drop)]
+#[derive(Clone, Copy)]
 pub struct Lister {
     pub reader: Reader,
     pub next: usize,

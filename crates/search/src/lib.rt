@@ -1,4 +1,6 @@
 // How verdicts spread along the steps.
+#![tactic(auto)]
+
 pub mod near;
 pub mod rescue;
 pub mod revive;

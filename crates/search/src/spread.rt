@@ -9,7 +9,7 @@ use adjacency::{after, first};
 use tables::{LIVE, UNKNOWN, is_visited, set_visited, wide};
 
 // Which sources of a visited node are allowed.
-#[derive(Drop)]
+#[derive(Clone, Copy)]
 pub enum Mode {
     // Those that are not live.
     Live,
@@ -20,7 +20,7 @@ pub enum Mode {
 }
 
 // The nodes that were admitted: how many are queued, and bounds of them.
-#[derive(Drop)]
+#[derive(Clone, Copy)]
 pub struct Span {
     pub len: usize,
     pub low: usize,

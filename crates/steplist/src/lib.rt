@@ -1,4 +1,6 @@
 // Where a step is listed. The step list alone decides, so that the answers are right on tables with any contents; work tables only save time.
+#![tactic(auto)]
+
 ghost use Rattle.std.specs.Prelude.{◌≡◌, true, false, ◌≤◌, ◌<◌, length};
 ghost use Rattle.std.proofs.Math.Option.{none};
 ghost use Rattle.tables.specs.Listing.{is_equal_at, first_place, is_found, is_listed_in};
@@ -10,7 +12,7 @@ use gid::Edge;
 use tables::wide;
 
 // The first place of an equal step, or that there is none.
-#[derive(Drop)]
+#[derive(Clone, Copy)]
 pub enum Place {
     At(usize),
     Nothing,

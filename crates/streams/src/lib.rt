@@ -1,4 +1,6 @@
 // What a program does between two calls that list or draw: it reads a piece of its standard input, or writes to its standard output. Before the first it looks at its arguments.
+#![tactic(auto)]
+
 ghost use Rattle.std.specs.Prelude.{◌≡◌, true, ◌↔◌, ◌≤◌, ltb, length};
 ghost use Rattle.streams.specs.declared.Served.{Served};
 ghost use Rattle.streams.specs.Serving.{Serves};
@@ -7,7 +9,7 @@ use libc::{STDERR_FILENO, STDIN_FILENO, STDOUT_FILENO};
 use reader::Task;
 
 // What came of a task.
-#[derive(Drop)]
+#[derive(Clone, Copy)]
 pub enum Served {
     // So many bytes of the input buffer are the piece to call with.
     Piece(usize),

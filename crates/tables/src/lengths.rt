@@ -4,7 +4,7 @@ ghost use Rattle.tables.specs.Tables.{enough, needs, check_needs};
 
 use super::visits::visited_len;
 
-#[derive(Drop)]
+#[derive(Clone, Copy)]
 pub struct Lengths {
     // An entry for each node of a search, or for each state.
     pub status: usize,

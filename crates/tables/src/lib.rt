@@ -1,4 +1,6 @@
 // What the engine is handed, and what it refuses: the state value, the caller's tables, the numbers 1 to 9 and 14, the mark bits, and the status question.
+#![tactic(auto)]
+
 ghost use Rattle.std.specs.Prelude.{◌≡◌, List, ℕ, ◌≤◌, ◌<◌, length};
 ghost use Rattle.tables.specs.Refused.{is_full, lent_number, sent_number, place_number, status_outcome, status_answer};
 ghost use Rattle.gid.specs.Updates.{source};
@@ -60,7 +62,7 @@ pub const CLOSED_SOURCE: u8 = 6;
 pub const LIST_FULL: u8 = 9;
 
 // The small state value of document 01: it goes into each update and comes back.
-#[derive(Drop)]
+#[derive(Clone, Copy)]
 pub struct Graph {
     // The number of states.
     pub n: usize,
@@ -71,7 +73,7 @@ pub struct Graph {
 }
 
 // What the status question answers: the state's byte, or the number of a refusal.
-#[derive(Drop)]
+#[derive(Clone, Copy)]
 pub enum Status {
     Byte(u8),
     Refused(u8),

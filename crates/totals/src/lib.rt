@@ -1,11 +1,13 @@
 // How many states have each status: the totals at the end of a listing.
+#![tactic(auto)]
+
 ghost use Rattle.std.specs.Prelude.{◌≡◌, ◌≤◌, ◌<◌, ◌+◌, length, get_or};
 ghost use Rattle.totals.specs.Counting.{totals_below};
 ghost use Rattle.totals.specs.Blocks.{Adds};
 
 use tables::{DEAD, LIVE, OPEN, UNKNOWN, least};
 
-#[derive(Drop)]
+#[derive(Clone, Copy)]
 pub struct Totals {
     pub open: usize,
     pub unknown: usize,

@@ -1,4 +1,6 @@
 // The record writer: turns tables into a record, in the caller's buffer from a starting place in its middle.
+#![tactic(auto)]
+
 ghost use Rattle.std.specs.Prelude.{◌≡◌};
 ghost use Rattle.tables.specs.Tables.{enough};
 ghost use Rattle.writer.specs.Answering.{writer_needs, Writes};
@@ -15,7 +17,7 @@ use tables::Graph;
 pub const SHORT_BUFFER: u8 = 13;
 
 // The place after the last byte, or the number of a refusal.
-#[derive(Drop)]
+#[derive(Clone, Copy)]
 pub enum Written {
     End(usize),
     Refused(u8),

@@ -6,7 +6,7 @@ use gid::Update;
 use tables::{has_closed, has_terminal};
 
 // "uses only the marks 2 and 4"
-#[derive(Drop)]
+#[derive(Clone, Copy)]
 pub enum Mark {
     Terminal,
     Close,
