@@ -1,0 +1,13 @@
+use native.Mathlib.Omega.{arith}
+use Rattle.tables.specs.Marks.{with_closed}
+use borrow.Author.Rules.{rules}
+use Rattle.tables.proofs.marks.with_closed.Reads as reads
+use Rattle.tables.proofs.marks.with_closed.Goals as goal
+
+pub returns-then-m-eq0 : goal.returns-then-m-eq0
+unfolding with_closed
+returns-then-m-eq0 c = omega arith
+
+pub returns-else-m-eq0 : goal.returns-else-m-eq0
+unfolding with_closed
+returns-else-m-eq0 c = omega arith

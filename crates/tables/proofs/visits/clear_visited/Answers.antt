@@ -1,0 +1,16 @@
+use Rattle.tables.specs.Tables.{visited_length}
+use Rattle.tables.specs.Visits.{unmark}
+use borrow.Author.Rules.{rules}
+use Rattle.tables.proofs.visits.clear_visited.Goals as goal
+
+pub bounds-visited-s : goal.bounds-visited-s
+unfolding visited_length
+bounds-visited-s c = search rules
+
+pub bounds-visited-s-2 : goal.bounds-visited-s-2
+unfolding visited_length
+bounds-visited-s-2 c = search rules
+
+pub returns : goal.returns
+unfolding unmark
+returns c = rw (c.without_bit.ensures, c.bit_of.ensures)
