@@ -1,0 +1,16 @@
+-- `digits_at` meets its contract.
+-- Assumes nothing.
+use Rattle.record.proofs.Indexed.{digit_found, no_digit_found, digits_other, digits_above, digits_more, digits_end}
+use Rattle.record.specs.Grammar.{digits}
+use lib.ListN.{length, get_or, drop}
+use borrow.Author.Rules.{rules}
+use native.Mathlib.Omega.{arith}
+use Prim.Native.Nat.{◌≤◌, ◌-◌}
+use mathlib.Core.Path.{◌≡◌, refl, sym, ◌∙◌}
+use Rattle.record.proofs.grammar.digits_at.Given as goal
+
+abbrev pub invariant-loop-i : goal.invariant-loop-i
+invariant-loop-i l = (l.i ≤ length l.s) × (l.number ≤ 65535) × (digits l.first (drop l.at l.s) ≡ digits l.number (drop l.i l.s))
+
+abbrev pub decreases-loop-i : goal.decreases-loop-i
+decreases-loop-i l = length l.s - l.i

@@ -1,0 +1,14 @@
+-- `first_line` meets its contract.
+-- Assumes nothing.
+use mathlib.Core.Path.{sym, ◌∙◌}
+use Rattle.record.specs.Splitting.{after_first}
+use borrow.Author.Rules.{rules}
+use Rattle.record.proofs.splitter.first_line.Goals as goal
+
+pub returns-then-is_states : goal.returns-then-is_states
+unfolding after_first
+returns-then-is_states c = rw (sym c.is_states.ensures ∙ c.if-is_states.true, c.empty.ensures)
+
+pub returns : goal.returns
+unfolding after_first
+returns c = rw (sym c.is_states.ensures ∙ c.if-is_states.false) c.names_line.ensures

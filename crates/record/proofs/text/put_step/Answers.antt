@@ -1,0 +1,74 @@
+-- `put_step` meets its contract.
+-- Assumes nothing.
+use Rattle.record.proofs.Writing.{head_length, step_length, wrote_step}
+use lib.ListN.{length-set}
+use native.Mathlib.Omega.{arith}
+use mathlib.Core.Path.{◌∙◌}
+use Rattle.record.proofs.text.put_step.Goals as goal
+
+pub put_head-at-requires : goal.put_head-at-requires
+put_head-at-requires c =
+    let a = c.args in
+    let d = a.buf.now in
+    let k = head_length 69 a.edge.from in
+    let m = step_length a.edge in
+    omega arith
+
+pub put_number_at-space-requires : goal.put_number_at-space-requires
+put_number_at-space-requires c =
+    let a = c.args in
+    let d = a.buf.now in
+    let k = head_length 69 a.edge.from in
+    let m = step_length a.edge in
+    omega (arith, c.put_head-at.ensures.count, c.put_head-at.auto.0)
+
+pub bounds-buf-space : goal.bounds-buf-space
+bounds-buf-space c =
+    let a = c.args in
+    let d = a.buf.now in
+    let k = head_length 69 a.edge.from in
+    let m = step_length a.edge in
+    omega (arith, c.put_head-at.ensures.count, c.put_head-at.auto.0, c.put_number_at-space.ensures.after, c.put_number_at-space.auto.0)
+
+pub overflow_add-space : goal.overflow_add-space
+overflow_add-space c =
+    let a = c.args in
+    let d = a.buf.now in
+    let k = head_length 69 a.edge.from in
+    let m = step_length a.edge in
+    omega (arith, c.put_head-at.ensures.count, c.put_number_at-space.ensures.after, c.type_inv.0.0)
+
+pub put_number_at-end-requires : goal.put_number_at-end-requires
+put_number_at-end-requires c =
+    let a = c.args in
+    let d = a.buf.now in
+    let k = head_length 69 a.edge.from in
+    let m = step_length a.edge in
+    simp length-set (omega (arith, c.put_head-at.ensures.count, c.put_head-at.auto.0, c.put_number_at-space.ensures.after, c.put_number_at-space.auto.0))
+
+pub bounds-buf-end : goal.bounds-buf-end
+bounds-buf-end c =
+    let a = c.args in
+    let d = a.buf.now in
+    let k = head_length 69 a.edge.from in
+    let m = step_length a.edge in
+    let e = length-set c.put_number_at-space.new.0 c.put_number_at-space.result 32 in
+    omega (arith, c.put_head-at.ensures.count, c.put_head-at.auto.0, c.put_number_at-space.ensures.after, c.put_number_at-space.auto.0, c.put_number_at-end.ensures.after, c.put_number_at-end.auto.0)
+
+pub overflow_add-result : goal.overflow_add-result
+overflow_add-result c =
+    let a = c.args in
+    let d = a.buf.now in
+    let k = head_length 69 a.edge.from in
+    let m = step_length a.edge in
+    omega (arith, c.put_head-at.ensures.count, c.put_number_at-space.ensures.after, c.put_number_at-end.ensures.after, c.type_inv.0.0)
+
+pub shape_of-buf : goal.shape_of-buf
+shape_of-buf c = simp length-set (c.put_number_at-end.auto.0 ∙ simp length-set (c.put_number_at-space.auto.0 ∙ c.put_head-at.auto.0))
+
+pub returns : goal.returns
+returns c =
+    let head = c.put_head-at in
+    let to = c.put_number_at-space in
+    let key = c.put_number_at-end in
+    wrote_step c.args.edge c.args.buf.now head.new.0 to.new.0 key.new.0 head.result to.result key.result c.requires head.ensures to.ensures key.ensures
