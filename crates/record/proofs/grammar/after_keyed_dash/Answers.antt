@@ -3,6 +3,7 @@
 use Rattle.record.proofs.Indexed.{a_rest, no_rest, behind_end, behind_same, behind_other}
 use Rattle.record.specs.Grammar.{no_key}
 use borrow.Author.Rules.{rules}
+use Rattle.std.proofs.Common.{arith}
 use Rattle.record.proofs.grammar.after_keyed_dash.Goals as goal
 
 pub returns-in_default : goal.returns-in_default
@@ -19,4 +20,4 @@ returns-in-45 c = let s = c.args.s.now in rw (a_rest s c.after_space.ensures c.i
 
 pub returns-in_default-b : goal.returns-in_default-b
 unfolding no_key
-returns-in_default-b c = let s = c.args.s.now in rw (a_rest s c.after_space.ensures c.in-At.is, behind_other s c.in-At.key c.if-s-key.false 45 c.in_default-b.rest.1)
+returns-in_default-b c = let s = c.args.s.now in rw (a_rest s c.after_space.ensures c.in-At.is, behind_other s c.in-At.key c.if-s-key.false 45 (λ e. omega arith))

@@ -3,6 +3,7 @@
 use Rattle.record.proofs.Indexed.{behind_end, behind_same, behind_other}
 use mathlib.Core.Path.{sym}
 use borrow.Author.Rules.{rules}
+use Rattle.std.proofs.Common.{arith}
 use Rattle.record.proofs.grammar.after_space.Goals as goal
 
 pub returns-then-s-at : goal.returns-then-s-at
@@ -12,4 +13,4 @@ pub returns-in-32 : goal.returns-in-32
 returns-in-32 c = sym (behind_same c.args.s.now c.args.at c.if-s-at.false 32 c.in-32.is)
 
 pub returns-in_default : goal.returns-in_default
-returns-in_default c = sym (behind_other c.args.s.now c.args.at c.if-s-at.false 32 c.in_default.rest.1)
+returns-in_default c = sym (behind_other c.args.s.now c.args.at c.if-s-at.false 32 (λ e. omega arith))

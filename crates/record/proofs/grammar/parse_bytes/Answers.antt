@@ -5,6 +5,7 @@ use Rattle.record.specs.Grammar.{update}
 use borrow.Author.Tests.{ne_eqb}
 use lib.ListN.{get_or}
 use borrow.Author.Rules.{rules}
+use Rattle.std.proofs.Common.{arith}
 use Rattle.record.proofs.grammar.parse_bytes.Goals as goal
 
 pub returns-then-s-eq0 : goal.returns-then-s-eq0
@@ -33,4 +34,4 @@ returns-in-67 c = rw (from_kind c.args.form c.args.s.now c.if-s-eq0.false c.requ
 
 pub returns-in_default-kind : goal.returns-in_default-kind
 unfolding update
-returns-in_default-kind c = rw (from_kind c.args.form c.args.s.now c.if-s-eq0.false c.requires, a_rest c.args.s.now c.after_space.ensures c.in-At.is, a_value c.args.s.now c.value_at.ensures c.in-Number.is, a_rest c.args.s.now c.after_space-2.ensures c.in-At-after_space.is, ne_eqb (get_or c.args.s.now 0 0) 69 c.in_default-kind.rest.0.0.1, ne_eqb (get_or c.args.s.now 0 0) 84 c.in_default-kind.rest.0.1, ne_eqb (get_or c.args.s.now 0 0) 67 c.in_default-kind.rest.1)
+returns-in_default-kind c = rw (from_kind c.args.form c.args.s.now c.if-s-eq0.false c.requires, a_rest c.args.s.now c.after_space.ensures c.in-At.is, a_value c.args.s.now c.value_at.ensures c.in-Number.is, a_rest c.args.s.now c.after_space-2.ensures c.in-At-after_space.is, ne_eqb (get_or c.args.s.now 0 0) 69 (λ e. omega arith), ne_eqb (get_or c.args.s.now 0 0) 84 (λ e. omega arith), ne_eqb (get_or c.args.s.now 0 0) 67 (λ e. omega arith))

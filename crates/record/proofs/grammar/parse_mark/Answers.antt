@@ -2,6 +2,7 @@
 -- Assumes nothing.
 use Rattle.record.proofs.Indexed.{a_rest, no_rest, mark_end, mark_dash, mark_other, whole_end, whole_more}
 use borrow.Author.Rules.{rules}
+use Rattle.std.proofs.Common.{arith}
 use Rattle.record.proofs.grammar.parse_mark.Goals as goal
 
 pub returns-then-s-at : goal.returns-then-s-at
@@ -23,4 +24,4 @@ returns-else-end-s c =
     rw (mark_dash a.s.now a.at c.if-s-at.false a.form a.update c.in-45.is, a_rest a.s.now c.after_no_key.ensures c.in-At.is, whole_end a.s.now c.in-At.end c.if-end-s.false a.update)
 
 pub returns-in_default : goal.returns-in_default
-returns-in_default c = let a = c.args in rw (mark_other a.s.now a.at c.if-s-at.false a.form a.update c.in_default.rest.1)
+returns-in_default c = let a = c.args in rw (mark_other a.s.now a.at c.if-s-at.false a.form a.update (λ e. omega arith))

@@ -17,7 +17,7 @@ pub returns-in-49-to-57 : goal.returns-in-49-to-57
 returns-in-49-to-57 c = c.digits_at.ensures ∙ sym (value_digits c.args.s.now c.args.at c.if-s-at.false (omega arith) (omega arith))
 
 pub returns-in_default : goal.returns-in_default
-returns-in_default c = sym (value_other c.args.s.now c.args.at c.if-s-at.false (below_digits (get_or c.args.s.now c.args.at 0) (omega (arith, c.in_default-1.rest.1))) c.in_default-1.rest.1)
+returns-in_default c = sym (value_other c.args.s.now c.args.at c.if-s-at.false (below_digits (get_or c.args.s.now c.args.at 0) (omega arith)) (λ e. omega arith))
 
 pub returns-in_default-2 : goal.returns-in_default-2
-returns-in_default-2 c = sym (value_other c.args.s.now c.args.at c.if-s-at.false (above_digits (get_or c.args.s.now c.args.at 0) (omega arith)) c.in_default-1.rest.1)
+returns-in_default-2 c = sym (value_other c.args.s.now c.args.at c.if-s-at.false (above_digits (get_or c.args.s.now c.args.at 0) (omega arith)) (λ e. omega arith))

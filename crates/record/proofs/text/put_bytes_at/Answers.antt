@@ -6,4 +6,4 @@ use borrow.Author.Rules.{rules}
 use Rattle.record.proofs.text.put_bytes_at.Goals as goal
 
 pub returns : goal.returns
-returns c = lent_back c.args.at c.args.s.now c.args.buf.now c.put_bytes.new.0 c.put_bytes.result (omega arith) c.put_bytes.ensures
+returns c = lent_back c.args.at c.args.s.now c.args.buf.now c.put_bytes.new.buf c.put_bytes.result (omega arith) c.put_bytes.ensures

@@ -32,21 +32,21 @@ bounds-buf-at c =
     let a = c.args in
     let d = a.buf.now in
     let k = head_length a.kind a.from in
-    omega (arith, c.put_number_at-at.ensures.after, c.put_number_at-at.auto.0, length-set (set d 0 a.kind) 1 32, length-set d 0 a.kind)
+    omega (arith, c.put_number_at-at.ensures.after, c.put_number_at-at.auto.buf, length-set (set d 0 a.kind) 1 32, length-set d 0 a.kind)
 
 pub overflow_add-result : goal.overflow_add-result
 overflow_add-result c =
     let a = c.args in
     let d = a.buf.now in
     let k = head_length a.kind a.from in
-    omega (arith, c.put_number_at-at.ensures.after, c.type_inv.0.0)
+    omega (arith, c.put_number_at-at.ensures.after, c.well_formed.0.0)
 
 pub shape_of-buf : goal.shape_of-buf
-shape_of-buf c = simp length-set (c.put_number_at-at.auto.0 ∙ simp length-set)
+shape_of-buf c = simp length-set (c.put_number_at-at.auto.buf ∙ simp length-set)
 
 pub returns : goal.returns
 returns c =
     let a = c.args in
     let d = a.buf.now in
     let k = head_length a.kind a.from in
-    wrote_head a.kind a.from d c.put_number_at-at.new.0 c.put_number_at-at.result c.requires c.put_number_at-at.ensures
+    wrote_head a.kind a.from d c.put_number_at-at.new.buf c.put_number_at-at.result c.requires c.put_number_at-at.ensures

@@ -19,10 +19,7 @@ put_bytes_at-requires c =
     let d = a.buf.now in
     let k = head_length a.kind a.state in
     let m = mark_length a.kind a.state in
-    omega (arith, c.put_head-at.ensures.count, c.put_head-at.auto.0)
+    omega (arith, c.put_head-at.ensures.count, c.put_head-at.auto.buf)
 
 pub returns : goal.returns
-returns c =
-    let head = c.put_head-at in
-    let dashes = c.put_bytes_at in
-    wrote_mark c.args.kind c.args.state c.args.buf.now head.new.0 dashes.new.0 head.result dashes.result c.requires head.ensures dashes.ensures
+returns c = wrote_mark c.args.kind c.args.state c.args.buf.now c.put_head-at.new.buf c.put_bytes_at.new.buf c.put_head-at.result c.put_bytes_at.result c.requires c.put_head-at.ensures c.put_bytes_at.ensures

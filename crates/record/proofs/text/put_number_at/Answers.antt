@@ -7,4 +7,4 @@ use borrow.Author.Rules.{rules}
 use Rattle.record.proofs.text.put_number_at.Goals as goal
 
 pub returns : goal.returns
-returns c = lent_back c.args.at (decimal c.args.value) c.args.buf.now c.put_number.new.0 c.put_number.result (omega arith) c.put_number.ensures
+returns c = lent_back c.args.at (decimal c.args.value) c.args.buf.now c.put_number.new.buf c.put_number.result (omega arith) c.put_number.ensures

@@ -20,7 +20,7 @@ put_number_at-space-requires c =
     let d = a.buf.now in
     let k = head_length 69 a.edge.from in
     let m = step_length a.edge in
-    omega (arith, c.put_head-at.ensures.count, c.put_head-at.auto.0)
+    omega (arith, c.put_head-at.ensures.count, c.put_head-at.auto.buf)
 
 pub bounds-buf-space : goal.bounds-buf-space
 bounds-buf-space c =
@@ -28,7 +28,7 @@ bounds-buf-space c =
     let d = a.buf.now in
     let k = head_length 69 a.edge.from in
     let m = step_length a.edge in
-    omega (arith, c.put_head-at.ensures.count, c.put_head-at.auto.0, c.put_number_at-space.ensures.after, c.put_number_at-space.auto.0)
+    omega (arith, c.put_head-at.ensures.count, c.put_head-at.auto.buf, c.put_number_at-space.ensures.after, c.put_number_at-space.auto.buf)
 
 pub overflow_add-space : goal.overflow_add-space
 overflow_add-space c =
@@ -36,7 +36,7 @@ overflow_add-space c =
     let d = a.buf.now in
     let k = head_length 69 a.edge.from in
     let m = step_length a.edge in
-    omega (arith, c.put_head-at.ensures.count, c.put_number_at-space.ensures.after, c.type_inv.0.0)
+    omega (arith, c.put_head-at.ensures.count, c.put_number_at-space.ensures.after, c.well_formed.0.0)
 
 pub put_number_at-end-requires : goal.put_number_at-end-requires
 put_number_at-end-requires c =
@@ -44,7 +44,7 @@ put_number_at-end-requires c =
     let d = a.buf.now in
     let k = head_length 69 a.edge.from in
     let m = step_length a.edge in
-    simp length-set (omega (arith, c.put_head-at.ensures.count, c.put_head-at.auto.0, c.put_number_at-space.ensures.after, c.put_number_at-space.auto.0))
+    simp length-set (omega (arith, c.put_head-at.ensures.count, c.put_head-at.auto.buf, c.put_number_at-space.ensures.after, c.put_number_at-space.auto.buf))
 
 pub bounds-buf-end : goal.bounds-buf-end
 bounds-buf-end c =
@@ -52,8 +52,8 @@ bounds-buf-end c =
     let d = a.buf.now in
     let k = head_length 69 a.edge.from in
     let m = step_length a.edge in
-    let e = length-set c.put_number_at-space.new.0 c.put_number_at-space.result 32 in
-    omega (arith, c.put_head-at.ensures.count, c.put_head-at.auto.0, c.put_number_at-space.ensures.after, c.put_number_at-space.auto.0, c.put_number_at-end.ensures.after, c.put_number_at-end.auto.0)
+    let e = length-set c.put_number_at-space.new.buf c.put_number_at-space.result 32 in
+    omega (arith, c.put_head-at.ensures.count, c.put_head-at.auto.buf, c.put_number_at-space.ensures.after, c.put_number_at-space.auto.buf, c.put_number_at-end.ensures.after, c.put_number_at-end.auto.buf)
 
 pub overflow_add-result : goal.overflow_add-result
 overflow_add-result c =
@@ -61,14 +61,10 @@ overflow_add-result c =
     let d = a.buf.now in
     let k = head_length 69 a.edge.from in
     let m = step_length a.edge in
-    omega (arith, c.put_head-at.ensures.count, c.put_number_at-space.ensures.after, c.put_number_at-end.ensures.after, c.type_inv.0.0)
+    omega (arith, c.put_head-at.ensures.count, c.put_number_at-space.ensures.after, c.put_number_at-end.ensures.after, c.well_formed.0.0)
 
 pub shape_of-buf : goal.shape_of-buf
-shape_of-buf c = simp length-set (c.put_number_at-end.auto.0 ∙ simp length-set (c.put_number_at-space.auto.0 ∙ c.put_head-at.auto.0))
+shape_of-buf c = simp length-set (c.put_number_at-end.auto.buf ∙ simp length-set (c.put_number_at-space.auto.buf ∙ c.put_head-at.auto.buf))
 
 pub returns : goal.returns
-returns c =
-    let head = c.put_head-at in
-    let to = c.put_number_at-space in
-    let key = c.put_number_at-end in
-    wrote_step c.args.edge c.args.buf.now head.new.0 to.new.0 key.new.0 head.result to.result key.result c.requires head.ensures to.ensures key.ensures
+returns c = wrote_step c.args.edge c.args.buf.now c.put_head-at.new.buf c.put_number_at-space.new.buf c.put_number_at-end.new.buf c.put_head-at.result c.put_number_at-space.result c.put_number_at-end.result c.requires c.put_head-at.ensures c.put_number_at-space.ensures c.put_number_at-end.ensures
