@@ -1,0 +1,12 @@
+-- `settle` settles the visited nodes of the span. The loop's invariant: the nodes below s have been seen. The measure is how many are left.
+-- Assumes nothing.
+use Prim.Native.Nat.{◌+◌, ◌-◌}
+use native.Mathlib.Omega.{arith}
+use Rattle.search.proofs.Settling.{Settling, settling_first, settling_next, settling_mark, settling_skip, settling_last}
+use Rattle.search.proofs.settle.settle.Given as goal
+
+abbrev pub invariant-loop-s : goal.invariant-loop-s
+invariant-loop-s l = Settling l.initial.s l.high l.verdict l.initial.status l.initial.successor l.initial.news l.initial.visited l.status l.successor l.news l.visited l.s l.count
+
+abbrev pub decreases-loop-s : goal.decreases-loop-s
+decreases-loop-s l = l.high + 1 - l.s
