@@ -16,7 +16,7 @@ SameStatuses n t t' = (s : ℕ) → s < n → get_or t.status s 0 ≡ get_or t'.
 
 -- With visited marks of any two forms: each update has the same answer, a number of news or the number of a refusal, and the same news in both runs, and after it each of n states has the same status.
 abbrev pub Matches :
-    (n : ℕ) {one other : Marking} {g₀ g₁ g g' : Graph} {t₀ t₁ t t' : Tables} {xs : List Update} {h q : History} →
+    (n : ℕ) {one other : Marking} {g₀ g₁ : Graph} {t₀ t₁ : Tables} {g g' : Graph} {t t' : Tables} {xs : List Update} {h q : History} →
     RunBy one g₀ t₀ xs h g t → RunBy other g₁ t₁ xs q g' t' → Type 0
 Matches n begun begun = Unit {0}
 Matches n (accepted {t' = a} first c x k p) (accepted {t' = b} second _ _ j _) =

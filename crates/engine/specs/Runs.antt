@@ -28,7 +28,7 @@ Run = RunBy by_bit
 
 -- Two runs, the pruned one being sent what the full one accepted less a choice of updates sent from a state already live: "each update it is sent has the same news in both runs and, after it, each state that the thinned run has named has the same status in both; what was left out had no news." The pruned run refuses nothing.
 abbrev pub Agree :
-    {g₀ g₁ g g' : Graph} {t₀ t₁ t t' : Tables} {xs : List Update} {h p q : History} →
+    {g₀ g₁ : Graph} {t₀ t₁ : Tables} {g g' : Graph} {t t' : Tables} {xs : List Update} {h p q : History} →
     Run g₀ t₀ xs h g t → Pruned h p → Run g₁ t₁ p q g' t' → Type 0
 Agree begun start thin = Unit {0}
 Agree (refused full s x k o) c thin = Agree full c thin
