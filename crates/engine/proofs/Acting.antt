@@ -8,8 +8,6 @@ use Prim.Native.Nat.{ℕ, ◌+◌, ◌-◌, ◌≤◌, ◌<◌}
 use native.Mathlib.Omega.{arith}
 use lib.Dec.{eqb}
 use lib.ListN.{get_or, set}
-use types.Run.{OneOf}
-use denote.Enum.Declared.{tag_of}
 use Rattle.gid.specs.declared.Edge.{Edge}
 use Rattle.gid.specs.declared.Update.{Update}
 use Rattle.gid.specs.declared.Update.TheVariants.{Step, Terminal, Close}
@@ -45,20 +43,18 @@ free_as m l e h = subst (λ (x : Update). Free m x l) e h
 pub listed_one : (m : ℕ) (e : Edge) {from to key in_head out_head in_next out_next in_head' out_head' in_next' out_next' : List ℕ} → Pushed out_head out_next e.from m out_head' out_next' → Pushed in_head in_next e.to m in_head' in_next' → Listed m (Step e) from to key in_head out_head in_next out_next (set from m e.from) (set to m e.to) (set key m e.key) in_head' out_head' in_next' out_next'
 listed_one m e o i = record { sources = refl; targets = refl; keys = refl; chained = pushed e o i }
 
--- and an update of another kind adds nothing: its tag is not a step's.
-pub listed_none : (m : ℕ) (x : Update) {from to key in_head out_head in_next out_next : List ℕ} → OneOf (1 ∷ 2 ∷ []) (tag_of the_type x) → Listed m x from to key in_head out_head in_next out_next from to key in_head out_head in_next out_next
-listed_none m (Step e) (inl k) = absurd (omega arith)
-listed_none m (Step e) (inr k) = absurd (omega arith)
-listed_none m (Terminal u) k = record { sources = refl; targets = refl; keys = refl; chained = same refl refl refl refl refl }
-listed_none m (Close u) k = record { sources = refl; targets = refl; keys = refl; chained = same refl refl refl refl refl }
+-- and an update of another kind adds nothing.
+pub listed_none : (m : ℕ) (x : Update) {from to key in_head out_head in_next out_next : List ℕ} → ((e : Edge) → x ≡ Step e → ⊥) → Listed m x from to key in_head out_head in_next out_next from to key in_head out_head in_next out_next
+listed_none m (Step e) n = absurd (n e refl)
+listed_none m (Terminal u) n = record { sources = refl; targets = refl; keys = refl; chained = same refl refl refl refl refl }
+listed_none m (Close u) n = record { sources = refl; targets = refl; keys = refl; chained = same refl refl refl refl refl }
 
 -- An update that comes again and is no step names nothing.
-pub names_none : (x : Update) (status marks : List ℕ) → OneOf (1 ∷ 2 ∷ []) (tag_of the_type x) → (status ≡ status_again x status) × (marks ≡ marks_again x marks)
+pub names_none : (x : Update) (status marks : List ℕ) → ((e : Edge) → x ≡ Step e → ⊥) → (status ≡ status_again x status) × (marks ≡ marks_again x marks)
 unfolding status_again marks_again
-names_none (Step e) status marks (inl k) = absurd (omega arith)
-names_none (Step e) status marks (inr k) = absurd (omega arith)
-names_none (Terminal u) status marks k = (refl, refl)
-names_none (Close u) status marks k = (refl, refl)
+names_none (Step e) status marks n = absurd (n e refl)
+names_none (Terminal u) status marks n = (refl, refl)
+names_none (Close u) status marks n = (refl, refl)
 
 -- The marks of both ends of a step,
 pub marks_both : (marks : List ℕ) (e : Edge) {marks₁ marks₂ : List ℕ} → marks₁ ≡ mark_at with_named e.from marks → marks₂ ≡ mark_at with_named e.to marks₁ → marks₂ ≡ set_marks (Step e) marks

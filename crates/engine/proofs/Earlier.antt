@@ -59,26 +59,47 @@ module _
         same_count : {k j : ℕ} → PromiseBy one g x t₂ g₂ (Accepted k) t₃ → PromiseBy other g' x t₂' g₂' (Accepted j) t₃' → news_of (Accepted k) t₃.news ≡ news_of (Accepted j) t₃'.news → k ≡ j
         same_count p o w = sym (counted (sound_checked (sound_by clear₀ fresh₀ first) c) long₀ p) ∙ ap length w ∙ counted (sound_checked (sound_by clear₁ fresh₁ second) d) long₁ o
 
+    -- What the runs so far have, those with one more update have, if both calls accept it or both refuse it; one call cannot do the one and the other the other.
+    module _
+        {xs : List Update} {h q : History} {g g' : Graph} {t t' : Tables} (first : RunBy one g₀ t₀ xs h g t) (second : RunBy other g₁ t₁ xs q g' t') (i : (q ≡ h) × Matches g₀.n first second)
+        {g₂ g₂' : Graph} {t₂ t₂' t₃ t₃' : Tables} (c : CheckedBy one g t t₂) (d : CheckedBy other g' t' t₂') (x : Update) {k j : ℕ}
+      where
+        both_accept :
+            (p : PromiseBy one g x t₂ g₂ (Accepted k) t₃) (o : PromiseBy other g' x t₂' g₂' (Accepted j) t₃') →
+            ((x ∷ q) ≡ (x ∷ h)) × Matches g₀.n (accepted first c x k p) (accepted second d x j o)
+        both_accept p o =
+            let e = same_told first second i.0 c d x p o in
+            let w : news_of (Accepted k) t₃.news ≡ news_of (Accepted j) t₃'.news = cc in
+            let z = ap (λ (f : History). x ∷ f) i.0 in
+            (z, (i.1, same_count first second i.0 c d x p o w, w, same_statuses (accepted first c x k p) (accepted second d x j o) z))
+
+        both_refuse :
+            (p : PromiseBy one g x t₂ g₂ (Refused k) t₃) (o : PromiseBy other g' x t₂' g₂' (Refused j) t₃') →
+            (q ≡ h) × Matches g₀.n (refused first c x k p) (refused second d x j o)
+        both_refuse p o =
+            let e = same_told first second i.0 c d x p o in
+            (i.0, (i.1, cc, same_statuses (refused first c x k p) (refused second d x j o) i.0))
+
+        no_second_refusal : PromiseBy one g x t₂ g₂ (Accepted k) t₃ → PromiseBy other g' x t₂' g₂' (Refused j) t₃' → ⊥
+        no_second_refusal p o =
+            let e = same_told first second i.0 c d x p o in
+            let z : ◌≡◌ {A = ℕ} 0 1 = cc in
+            omega arith
+
+        no_first_refusal : PromiseBy one g x t₂ g₂ (Refused k) t₃ → PromiseBy other g' x t₂' g₂' (Accepted j) t₃' → ⊥
+        no_first_refusal p o =
+            let e = same_told first second i.0 c d x p o in
+            let z : ◌≡◌ {A = ℕ} 0 1 = cc in
+            omega arith
+
     pub matches :
         {xs : List Update} {h q : History} {g g' : Graph} {t t' : Tables} (first : RunBy one g₀ t₀ xs h g t) (second : RunBy other g₁ t₁ xs q g' t') →
         (q ≡ h) × Matches g₀.n first second
     matches begun begun = (refl, tt)
-    matches (accepted {t' = t} first c x k p) (accepted {t' = t'} second d y j o) =
-        let i = matches first second in
-        let e = same_told first second i.0 c d x p o in
-        let w : news_of (Accepted k) t.news ≡ news_of (Accepted j) t'.news = cc in
-        let z = ap (λ (f : History). x ∷ f) i.0 in
-        (z, (i.1, same_count first second i.0 c d x p o w, w, same_statuses (accepted first c x k p) (accepted second d y j o) z))
-    matches (refused first c x k p) (refused second d y j o) =
-        let i = matches first second in
-        let e = same_told first second i.0 c d x p o in
-        (i.0, (i.1, cc, same_statuses (refused first c x k p) (refused second d y j o) i.0))
-    matches (accepted first c x k p) (refused second d y j o) =
-        let e = same_told first second (matches first second).0 c d x p o in
-        absurd (let z : ◌≡◌ {A = ℕ} 0 1 = cc in omega arith)
-    matches (refused first c x k p) (accepted second d y j o) =
-        let e = same_told first second (matches first second).0 c d x p o in
-        absurd (let z : ◌≡◌ {A = ℕ} 0 1 = cc in omega arith)
+    matches (accepted first c x k p) (accepted second d y j o) = both_accept first second (matches first second) c d x p o
+    matches (refused first c x k p) (refused second d y j o) = both_refuse first second (matches first second) c d x p o
+    matches (accepted first c x k p) (refused second d y j o) = absurd (no_second_refusal first second (matches first second) c d x p o)
+    matches (refused first c x k p) (accepted second d y j o) = absurd (no_first_refusal first second (matches first second) c d x p o)
 
 -- "For histories on fresh tables long enough for the old lengths too, answers, news and statuses match those of the earlier work tables": any list of updates, refused ones among them, with table checks in between.
 pub as_earlier :

@@ -28,8 +28,7 @@ begin-starts-requires c =
 pub revive-requires : goal.revive-requires
 revive-requires c =
     let g = c.requires.n_in_bounds in
-    let k = c.begin-starts.auto in
-    record { n_le_max_states = (c.requires.in_range.1, begun_queued c.begin-starts.ensures c.args.n (quickened_state c.args.n c.args.update c.args.status.now c.requires.in_range.0 c.quickened-life.ensures c.if-life-gt0.true).1 g.4 g.3); walkable = c.requires.walkable.0; n_in_bounds = (g.0, g.1, g.2, rw k.1.0 g.3, rw k.1.1.0 g.4) }
+    record { n_le_max_states = (c.requires.in_range.1, begun_queued c.begin-starts.ensures c.args.n (quickened_state c.args.n c.args.update c.args.status.now c.requires.in_range.0 c.quickened-life.ensures c.if-life-gt0.true).1 g.4 g.3); walkable = c.requires.walkable.0; n_in_bounds = (g.0, g.1, g.2, rw c.begin-starts.auto.queue g.3, rw c.begin-starts.auto.visited g.4) }
 
 pub returns-then-life-gt0 : goal.returns-then-life-gt0
 returns-then-life-gt0 c = revived (c.quickened-life.result - 1) (quickened_state c.args.n c.args.update c.args.status.now c.requires.in_range.0 c.quickened-life.ensures c.if-life-gt0.true).0 c.begin-starts.result c.begin-starts.new.visited c.begin-starts.new.queue c.begin-starts.ensures c.revive.ensures
@@ -81,9 +80,8 @@ begin-starts-requires-2 c =
 pub sweep-requires : goal.sweep-requires
 sweep-requires c =
     let g = c.requires.n_in_bounds in
-    let k = c.begin-starts-2.auto in
     record { n_le_max_states = (c.requires.in_range.1, begun_queued c.begin-starts-2.ensures c.args.n (let c = c in
-    endangered_state c.args.n c.args.update c.args.status.now c.requires.in_range.0 c.endangered-closed.ensures c.if-closed-eq0.false).1 g.4 g.3); walkable = c.requires.walkable.0; walkable_2 = c.requires.walkable.1; n_in_bounds = (rw length-set g.0, g.1, g.2, rw k.1.0 g.3, rw k.1.1.0 g.4) }
+    endangered_state c.args.n c.args.update c.args.status.now c.requires.in_range.0 c.endangered-closed.ensures c.if-closed-eq0.false).1 g.4 g.3); walkable = c.requires.walkable.0; walkable_2 = c.requires.walkable.1; n_in_bounds = (rw length-set g.0, g.1, g.2, rw c.begin-starts-2.auto.queue g.3, rw c.begin-starts-2.auto.visited g.4) }
 
 pub returns : goal.returns
 returns c = swept (c.endangered-closed.result - 1) (endangered_state c.args.n c.args.update c.args.status.now c.requires.in_range.0 c.endangered-closed.ensures c.if-closed-eq0.false).0 c.begin-starts-2.result c.begin-starts-2.new.visited c.begin-starts-2.new.queue c.begin-starts-2.ensures c.sweep.ensures

@@ -7,7 +7,7 @@ use Rattle.engine.proofs.Acting.{in_range_as, key_below_as, free_as, listed_none
 use Rattle.engine.proofs.accept.list.Goals as goal
 
 pub returns-in_default : goal.returns-in_default
-returns-in_default c = let a = c.args in listed_none a.p a.update c.in_default.in_default-own.keys2
+returns-in_default c = let a = c.args in listed_none a.p a.update c.in_default.not-Step
 
 pub overflow_cast-from : goal.overflow_cast-from
 overflow_cast-from c = omega (arith, (in_range_as 65536 c.in-Step.is c.requires.in_range.0).0)

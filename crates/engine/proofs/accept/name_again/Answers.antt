@@ -8,7 +8,7 @@ use Rattle.engine.proofs.Acting.{in_range_as, marks_both, names_both, names_none
 use Rattle.engine.proofs.accept.name_again.Goals as goal
 
 pub returns-in_default : goal.returns-in_default
-returns-in_default c = let a = c.args in names_none a.update a.status.now a.marks.now c.in_default.in_default-own.keys2
+returns-in_default c = let a = c.args in names_none a.update a.status.now a.marks.now c.in_default.not-Step
 
 pub name-requires : goal.name-requires
 name-requires c =
