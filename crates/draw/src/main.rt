@@ -24,22 +24,25 @@ struct DrawingEnd {
     over: bool,
 }
 
-fn main() {
+fn main(rt: HostRuntime) {
+    let errors = rt.stderr();
     if streams::told_usage(
+        &rt,
+        &errors,
         b"radvoinis-draw",
         b"usage: radvoinis-draw <RECORD\n\
           Reads a record of updates and writes where it ends as a Graphviz graph: each\n\
           state by its verdict, a terminal one with a double border, each accepted step\n\
           with its key. It takes no arguments. radvoinis-draw <RECORD | dot -Tpng makes\n\
           an image.\n",
-        os::arg_count(),
+        streams::word_count(&rt),
     ) {
         return;
     }
-    draw_record();
+    draw_record(&rt, &errors);
 }
 
-fn draw_record() {
+fn draw_record(rt: &(impl Input + Print), errors: &impl Print) {
     let mut status = [0u8; MAX_STATES];
     let mut marks = [0u8; MAX_STATES];
     let mut from = [0u16; RECORD_LIMIT];
@@ -56,6 +59,8 @@ fn draw_record() {
     let mut input = [0u8; INPUT];
     let mut output = [0u8; PICTURE_ROOM];
     draw_input(
+        rt,
+        errors,
         &mut input,
         &mut output,
         &mut status,
@@ -74,8 +79,10 @@ fn draw_record() {
     );
 }
 
-// Nothing says that an input ends, so the turns are counted down, from a number that no run uses up.
+// Nothing says that an input ends, so the turns are counted, up to a number that no run reaches.
 fn draw_input(
+    rt: &(impl Input + Print),
+    errors: &impl Print,
     input: &mut [u8],
     output: &mut [u8],
     status: &mut [u8],
@@ -100,11 +107,19 @@ fn draw_input(
         out_next,
     );
     let mut count = 0;
-    let mut turns = u64::MAX;
-    while turns > 0 {
+    for _ in 0..u64::MAX {
         let task = drawer.task;
         let end = drawer.end;
-        let served = streams::serve(b"radvoinis-draw", task, end, count, input, output);
+        let served = streams::serve(
+            rt,
+            errors,
+            b"radvoinis-draw",
+            task,
+            end,
+            count,
+            input,
+            output,
+        );
         let Served::Piece(len) = served else {
             return DrawingEnd {
                 drawer,
@@ -131,7 +146,6 @@ fn draw_input(
         );
         drawer = next;
         count = len;
-        turns -= 1;
     }
     DrawingEnd {
         drawer,

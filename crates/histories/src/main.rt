@@ -8,29 +8,34 @@ use enumeration::ROOM;
 use reader::Task;
 use streams::Served;
 
-fn main() {
+fn main(rt: HostRuntime) {
+    let errors = rt.stderr();
     if streams::told_usage(
+        &rt,
+        &errors,
         b"radvoinis-histories",
         b"usage: radvoinis-histories\n\
           Lists every legal history of at most three updates over two states, with the\n\
           status of each state after it; at the end, how many there are. It reads no input\n\
           and takes no arguments.\n",
-        os::arg_count(),
+        streams::word_count(&rt),
     ) {
         return;
     }
     let mut output = [0u8; ROOM];
-    write_histories(&mut output);
+    write_histories(&rt, &errors, &mut output);
 }
 
 // The text is written at once, as the last of a program that reads nothing.
-fn write_histories(output: &mut [u8]) -> Served
+fn write_histories(rt: &(impl Input + Print), errors: &impl Print, output: &mut [u8]) -> Served
     requires { enumeration_room ≤ length output.old }
     ensures { take (length enumeration_text) output.new ≡ enumeration_text }
 {
     let end = enumeration::enumerate(output);
     let mut input = [0u8; 1];
     streams::serve(
+        rt,
+        errors,
         b"radvoinis-histories",
         Task::End,
         end,

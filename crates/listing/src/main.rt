@@ -26,21 +26,24 @@ struct ListingEnd {
     over: bool,
 }
 
-fn main() {
+fn main(rt: HostRuntime) {
+    let errors = rt.stderr();
     if streams::told_usage(
+        &rt,
+        &errors,
         b"radvoinis-listing",
         b"usage: radvoinis-listing <RECORD\n\
           Reads a record of updates and lists, line by line, the states that an update\n\
           settles as live or dead and the numbers of refusals; at the end, how many states\n\
           have each status. It takes no arguments.\n",
-        os::arg_count(),
+        streams::word_count(&rt),
     ) {
         return;
     }
-    list_record();
+    list_record(&rt, &errors);
 }
 
-fn list_record() {
+fn list_record(rt: &(impl Input + Print), errors: &impl Print) {
     let mut status = [0u8; MAX_STATES];
     let mut marks = [0u8; MAX_STATES];
     let mut from = [0u16; RECORD_LIMIT];
@@ -57,6 +60,8 @@ fn list_record() {
     let mut input = [0u8; INPUT];
     let mut output = [0u8; OUTPUT];
     list_input(
+        rt,
+        errors,
         &mut input,
         &mut output,
         &mut status,
@@ -75,8 +80,10 @@ fn list_record() {
     );
 }
 
-// Nothing says that an input ends, so the turns are counted down, from a number that no run uses up.
+// Nothing says that an input ends, so the turns are counted, up to a number that no run reaches.
 fn list_input(
+    rt: &(impl Input + Print),
+    errors: &impl Print,
     input: &mut [u8],
     output: &mut [u8],
     status: &mut [u8],
@@ -101,11 +108,19 @@ fn list_input(
         in_next, out_next,
     );
     let mut count = 0;
-    let mut turns = u64::MAX;
-    while turns > 0 {
+    for _ in 0..u64::MAX {
         let task = lister.task;
         let end = lister.end;
-        let served = streams::serve(b"radvoinis-listing", task, end, count, input, output);
+        let served = streams::serve(
+            rt,
+            errors,
+            b"radvoinis-listing",
+            task,
+            end,
+            count,
+            input,
+            output,
+        );
         let Served::Piece(len) = served else {
             return ListingEnd {
                 lister,
@@ -132,7 +147,6 @@ fn list_input(
         );
         lister = next;
         count = len;
-        turns -= 1;
     }
     ListingEnd {
         lister,

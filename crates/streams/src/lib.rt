@@ -1,12 +1,14 @@
 // What a program does between two calls that list or draw: it reads a piece of its standard input, or writes to its standard output. Before the first it looks at its arguments.
 #![tactic(auto)]
 
-ghost use Rattle.std.specs.Prelude.{◌≡◌, true, ◌↔◌, ◌≤◌, ltb, length};
+ghost use Rattle.std.specs.Prelude.{◌≡◌, true, ◌↔◌, ◌≤◌, ltb, length, codes};
 ghost use Rattle.streams.specs.declared.Served.{Served};
 ghost use Rattle.streams.specs.Serving.{Serves};
 
-use libc::{STDERR_FILENO, STDIN_FILENO, STDOUT_FILENO};
 use reader::Task;
+use std::env::FillError;
+use std::io::Read;
+use std::rt::Env;
 
 // What came of a task.
 #[derive(Clone, Copy)]
@@ -31,43 +33,58 @@ impl Served {
     }
 }
 
-// Tells the usage where the command line has more words than the program's name, since a program takes no arguments, and answers whether it did. It goes to standard output where it is asked for, by `--help` alone, else to standard error.
-pub fn told_usage(program: &[u8], usage: &[u8], words: usize) -> bool
+// How many words the command line has, the program's name among them. They need not be text.
+pub fn word_count(rt: &impl Env) -> usize {
+    let mut word = [0u8; 1];
+    for i in 0..usize::MAX {
+        if matches!(rt.arg(i, &mut word), Err(FillError::NotPresent)) {
+            return i;
+        }
+    }
+    usize::MAX
+}
+
+// Tells the usage where the command line has more words than the program's name, since a program takes no arguments, and answers whether it did. It goes to standard output where it is asked for, by `--help` alone, else to standard error, which is `errors`.
+pub fn told_usage(
+    rt: &(impl Env + Print),
+    errors: &impl Print,
+    program: &[u8],
+    usage: &[u8],
+    words: usize,
+) -> bool
     ensures { result ≡ ltb 1 words }
 {
     if words < 2 {
         return false;
     }
-    tell(program, usage, asked_for_help(words));
+    tell(rt, errors, program, usage, asked_for_help(rt, words));
     true
 }
 
-fn tell(program: &[u8], usage: &[u8], asked: bool) {
+// Where standard error cannot be written there is nobody left to tell.
+fn tell(rt: &impl Print, errors: &impl Print, program: &[u8], usage: &[u8], asked: bool) {
     if asked {
-        write_text(program, usage, usage.len());
+        write_text(rt, errors, program, usage, usage.len());
     } else {
-        io::write_all(STDERR_FILENO, usage);
+        let _ = errors.write_all(usage);
     }
 }
 
-// An argument that is longer than the array counts as empty.
-fn asked_for_help(words: usize) -> bool {
+fn asked_for_help(rt: &impl Env, words: usize) -> bool {
     let mut word = [0u8; 6];
-    let len = os::arg(1, &mut word);
-    words == 2 && len == 6 && is_help(word)
+    words == 2 && matches!(rt.arg(1, &mut word), Ok(6)) && is_help(word)
 }
 
-fn is_help(word: [u8; 6]) -> bool {
-    word[0] == b'-'
-        && word[1] == b'-'
-        && word[2] == b'h'
-        && word[3] == b'e'
-        && word[4] == b'l'
-        && word[5] == b'p'
+fn is_help(word: [u8; 6]) -> bool
+    ensures { (result ≡ true) ↔ (word ≡ codes "--help") }
+{
+    word == *b"--help"
 }
 
-// Does a task. `count` is the length of the piece at hand, `end` that of the text in the output. A read that fails counts as the end of the input, and standard error says so.
+// Does a task. `count` is the length of the piece at hand, `end` that of the text in the output. A read that fails counts as the end of the input, and standard error, which is `errors`, says so.
 pub fn serve(
+    rt: &(impl Input + Print),
+    errors: &impl Print,
     program: &[u8],
     task: Task,
     end: usize,
@@ -78,15 +95,15 @@ pub fn serve(
     ensures { Serves task count input.old input.new result }
 {
     match task {
-        Task::Read => Served::Piece(read_piece(program, input)),
+        Task::Read => Served::Piece(read_piece(rt, errors, program, input)),
         Task::Write => {
-            if write_text(program, output, end) {
+            if write_text(rt, errors, program, output, end) {
                 return Served::Piece(count);
             }
             Served::Failed
         }
         Task::End => {
-            if write_text(program, output, end) {
+            if write_text(rt, errors, program, output, end) {
                 return Served::Over;
             }
             Served::Failed
@@ -94,33 +111,42 @@ pub fn serve(
     }
 }
 
-fn read_piece(program: &[u8], input: &mut [u8]) -> usize
+// One call reads a piece, so that what a terminal or a pipe has is served at once.
+fn read_piece(rt: &impl Input, errors: &impl Print, program: &[u8], input: &mut [u8]) -> usize
     ensures { result ≤ length input.new }
 {
-    let got = libc::read(STDIN_FILENO, input);
-    if got < 0 {
-        say(program, b": cannot read standard input\n");
+    match rt.reader().read(input) {
+        Ok(count) => count,
+        Err(_) => {
+            say(errors, program, b": cannot read standard input\n");
+            0
+        }
     }
-    io::count(got, input)
 }
 
-fn write_text(program: &[u8], output: &[u8], end: usize) -> bool {
-    if write_front(output, end) {
+fn write_text(
+    rt: &impl Print,
+    errors: &impl Print,
+    program: &[u8],
+    output: &[u8],
+    end: usize,
+) -> bool {
+    if write_front(rt, output, end) {
         return true;
     }
-    say(program, b": cannot write standard output\n");
+    say(errors, program, b": cannot write standard output\n");
     false
 }
 
-fn write_front(output: &[u8], end: usize) -> bool {
+fn write_front(rt: &impl Print, output: &[u8], end: usize) -> bool {
     if end < output.len() {
-        return io::write_all(STDOUT_FILENO, &output[..end]);
+        return rt.write_all(&output[..end]).is_ok();
     }
-    io::write_all(STDOUT_FILENO, output)
+    rt.write_all(output).is_ok()
 }
 
 // Where standard error cannot be written there is nobody left to tell.
-fn say(program: &[u8], what: &[u8]) {
-    io::write_all(STDERR_FILENO, program);
-    io::write_all(STDERR_FILENO, what);
+fn say(errors: &impl Print, program: &[u8], what: &[u8]) {
+    let _ = errors.write_all(program);
+    let _ = errors.write_all(what);
 }
