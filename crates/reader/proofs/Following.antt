@@ -8,8 +8,6 @@ use mathlib.Core.Option.{Option, some, none}
 use Prim.Native.Nat.{ℕ, ◌+◌, ◌≤◌}
 use native.Mathlib.Omega.{arith}
 use lib.ListN.{drop}
-use types.Run.{OneOf}
-use denote.Enum.Declared.{tag_of}
 use Rattle.gid.specs.declared.Update.{Update}
 use Rattle.gid.specs.Histories.{History}
 use Rattle.gid.specs.Refusals.{max_states}
@@ -26,7 +24,6 @@ use Rattle.engine.proofs.Running.{was_accepted}
 use Rattle.engine.proofs.Promising.{room_of}
 use Rattle.record.specs.declared.splitter.Item.{Item}
 use Rattle.record.specs.declared.splitter.Numbered.{Numbered}
-use Rattle.record.specs.contracts.splitter.Item.{the_type}
 use Rattle.record.specs.declared.splitter.Item.TheVariants.{Nothing as NoLine, Update as Sent, Malformed, BadNames, TooMany, States, BadCount}
 use Rattle.record.specs.declared.splitter.Splitter.{Splitter}
 use Rattle.record.specs.Items.{item_line, max_lines}
@@ -38,21 +35,16 @@ use Rattle.reader.specs.declared.driver.LineAnswer.TheVariants.{Nothing}
 use Rattle.reader.specs.declared.driver.Until.{Until}
 use Rattle.reader.specs.declared.driver.Until.TheVariants.{News, Refusal, End}
 use Rattle.reader.specs.Turning.{item_answer, line_answer, Came, sent, nothing, malformed, bad_names, too_many, states, bad_count}
-use Rattle.reader.specs.Replaying.{with_count, start_of, after_items}
+use Rattle.reader.specs.Replaying.{with_count, start_of, after_item, after_items}
 use Rattle.reader.specs.Opening.{reader_states}
 use Rattle.reader.specs.Standing.{Standing}
 use Rattle.reader.specs.Advancing.{Passed, items_of, Applies, none as no_line, next, waited, Quiet, found, ended, Bounded, Follows, Advances}
 use Rattle.reader.proofs.Lines.{answer_told, line_right, head_right}
 
--- What comes of a line that is no update: its tag is another than an update's.
-pub came_other : (a : Item) {g : Graph} {t : Tables} → OneOf (0 ∷ 2 ∷ 3 ∷ 4 ∷ 5 ∷ 6 ∷ []) (tag_of the_type a) → Came a g t (with_count a g) t (item_answer a)
+-- What comes of a line that is no update.
+pub came_other : (a : Item) {g : Graph} {t : Tables} → ((n : Numbered) → a ≡ Sent n → ⊥) → Came a g t (with_count a g) t (item_answer a)
 came_other NoLine e = nothing
-came_other (Sent r) (inl e) = absurd (omega arith)
-came_other (Sent r) (inr (inl e)) = absurd (omega arith)
-came_other (Sent r) (inr (inr (inl e))) = absurd (omega arith)
-came_other (Sent r) (inr (inr (inr (inl e)))) = absurd (omega arith)
-came_other (Sent r) (inr (inr (inr (inr (inl e))))) = absurd (omega arith)
-came_other (Sent r) (inr (inr (inr (inr (inr e))))) = absurd (omega arith)
+came_other (Sent n) e = absurd (e n refl)
 came_other (Malformed n) e = malformed
 came_other (BadNames n) e = bad_names
 came_other TooMany e = too_many
@@ -60,18 +52,13 @@ came_other (States c) e = states
 came_other BadCount e = bad_count
 
 -- A line that is no count leaves the state value.
-pub uncounted : (a : Item) (g : Graph) → OneOf (0 ∷ 1 ∷ 2 ∷ 3 ∷ 4 ∷ 6 ∷ []) (tag_of the_type a) → g ≡ with_count a g
+pub uncounted : (a : Item) (g : Graph) → ((c : ℕ) → a ≡ States c → ⊥) → g ≡ with_count a g
 uncounted NoLine g e = refl
-uncounted (Sent r) g e = refl
+uncounted (Sent n) g e = refl
 uncounted (Malformed n) g e = refl
 uncounted (BadNames n) g e = refl
 uncounted TooMany g e = refl
-uncounted (States c) g (inl e) = absurd (omega arith)
-uncounted (States c) g (inr (inl e)) = absurd (omega arith)
-uncounted (States c) g (inr (inr (inl e))) = absurd (omega arith)
-uncounted (States c) g (inr (inr (inr (inl e)))) = absurd (omega arith)
-uncounted (States c) g (inr (inr (inr (inr (inl e))))) = absurd (omega arith)
-uncounted (States c) g (inr (inr (inr (inr (inr e))))) = absurd (omega arith)
+uncounted (States c) g e = absurd (e c refl)
 uncounted BadCount g e = refl
 
 pub came_as : {a b : Item} {g : Graph} {t : Tables} {g' : Graph} {t' : Tables} {o : LineAnswer} → a ≡ b → Came a g t g' t' o → Came b g t g' t' o
@@ -154,7 +141,7 @@ items_then (p ∷ l) m = ap (λ (x : List Item). p.item ∷ x) (items_then l m)
 -- Where lines are applied to tables that stand, they stand for the history after them,
 pub applies_stands : {start : Graph} {h : History} {g g' : Graph} {t t' : Tables} {l : List Passed} → NoCounts (items_of l) → Standing start h g t → Applies g t l g' t' → Standing start (after_items start h (items_of l)) g' t'
 applies_stands n s no_line = s
-applies_stands n s (next c a) = applies_stands n.1 (line_right s n.0 c).1 a
+applies_stands {start} {h} n s (next {p = p} c a) = applies_stands {h = after_item start h p.item} n.1 (line_right s n.0 c).1 a
 
 -- and from the start of a record for as many states as it says.
 pub begins_stands : {start : Graph} {g g' : Graph} {t t' : Tables} {l : List Passed} → max_states ≤ start.n → Headed (items_of l) → Standing start [] g t → Applies g t l g' t' → Standing (start_of start (items_of l)) (after_items (start_of start (items_of l)) [] (items_of l)) g' t'

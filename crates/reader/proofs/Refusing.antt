@@ -72,11 +72,13 @@ module _ {start : Graph} {h : History} (p : Passed) (told : line_outcome p.answe
 
 found_at : {start : Graph} {h : History} {g g' : Graph} {t t' : Tables} (before : List Passed) (p : Passed) → NoCounts (items_of (before ++ (p ∷ []))) → Standing start h g t → Applies g t (before ++ (p ∷ [])) g' t' → Quiet UntilRefusal before → waited UntilRefusal p.answer ≡ true → (rest : List Item) → Decided start h (items_of (before ++ (p ∷ [])) ++ rest) p.answer (items_of (before ++ (p ∷ [])))
 found_at [] p n s (next c a) q w rest = step_found p (line_right s n.0 c).0 rest w
-found_at (b ∷ before) p n s (next c a) q w rest = let r = line_right s n.0 c in step_quiet b r.0 q.0 (found_at before p n.1 r.1 a q.1 w rest)
+found_at {start} {h} (b ∷ before) p n s (next c a) q w rest =
+    let r = line_right s n.0 c in step_quiet b r.0 q.0 (found_at {h = after_item start h b.item} before p n.1 r.1 a q.1 w rest)
 
 quiet_all : {start : Graph} {h : History} {g g' : Graph} {t t' : Tables} {l : List Passed} → NoCounts (items_of l) → Standing start h g t → Applies g t l g' t' → Quiet UntilRefusal l → Decided start h (items_of l) Nothing (items_of l)
 quiet_all n s no_line q = record { refusal = refl; up_to = refl }
-quiet_all n s (next {p = p} c a) q = let r = line_right s n.0 c in step_quiet p r.0 q.0 (quiet_all n.1 r.1 a q.1)
+quiet_all {start} {h} n s (next {p = p} c a) q =
+    let r = line_right s n.0 c in step_quiet p r.0 q.0 (quiet_all {h = after_item start h p.item} n.1 r.1 a q.1)
 
 -- From the start of a record.
 module _ {start : Graph} {g : Graph} {t : Tables} (wide : max_states ≤ start.n) (s : Standing start [] g t) where

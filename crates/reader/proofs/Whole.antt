@@ -82,7 +82,7 @@ first_refused n s no_line = refl
 first_refused {start} {h} n s (next {p = p} {l = l} c a) =
     let w = line_right s n.0 c in
     told_refused start h p.item p.answer p.after.news w.0 (first_refusal start (after_item start h p.item) (items_of l)) ∙
-    ap (or_refused p.answer) (first_refused n.1 w.1 a)
+    ap (or_refused p.answer) (first_refused {h = after_item start h p.item} n.1 w.1 a)
 
 begins_refused : {start : Graph} {g g' : Graph} {t t' : Tables} {l : List Passed} → max_states ≤ start.n → Headed (items_of l) → Standing start [] g t → Applies g t l g' t' → first_refusal (start_of start (items_of l)) [] (items_of l) ≡ refusal_in l
 begins_refused m h s no_line = refl

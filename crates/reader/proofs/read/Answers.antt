@@ -6,7 +6,7 @@ use borrow.Author.Rules.{rules}
 use Rattle.reader.proofs.read.Goals as goal
 
 pub returns-in-Refused : goal.returns-in-Refused
-returns-in-Refused c = let a = c.args in reads_refused a.limit a.bytes.now c.«open».ensures c.in-Refused.is
+returns-in-Refused c = let a = c.args in reads_refused a.limit a.bytes.now c.open-opened.ensures c.in-Refused.is
 
 pub returns-in-Ready : goal.returns-in-Ready
-returns-in-Ready c = reads_by c.«open».ensures c.in-Ready.is c.start-start.ensures.0 c.start-start.ensures.1 c.advance-first.ensures.2 c.read_rest.ensures
+returns-in-Ready c = reads_by c.open-opened.ensures c.in-Ready.is c.start-start.ensures.0 c.start-start.ensures.1 c.advance-first.ensures.2 c.read_rest.ensures

@@ -19,5 +19,5 @@ returns-in_default c =
     let f = c.feed_line-advanced.ensures in (
       ap (λ (x : Advanced). x.next) f,
       ap (λ (x : Advanced). x.splitter) f,
-      came_as (ap (λ (x : Advanced). x.item) f) (rw (c.item_answer.ensures, c.with_count.ensures) (came_other c.feed_line-advanced.result.item c.in_default.in_default-own.keys2)),
+      came_as (ap (λ (x : Advanced). x.item) f) (rw (c.item_answer.ensures, c.with_count.ensures) (came_other c.feed_line-advanced.result.item c.in_default.not-Update)),
     )

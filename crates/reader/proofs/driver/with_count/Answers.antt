@@ -8,4 +8,4 @@ pub returns-in-States : goal.returns-in-States
 returns-in-States c = rw c.in-States.is
 
 pub returns-in_default : goal.returns-in_default
-returns-in_default c = uncounted c.args.item c.args.engine.graph c.in_default.in_default-own.keys2
+returns-in_default c = uncounted c.args.item c.args.engine.graph c.in_default.not-States
