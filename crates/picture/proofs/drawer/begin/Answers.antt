@@ -1,0 +1,7 @@
+-- `begin` opens the tables.
+-- Assumes nothing.
+use borrow.Author.Rules.{rules}
+use Rattle.picture.proofs.drawer.begin.Goals as goal
+
+pub returns : goal.returns
+returns c = c.begun.ensures _ _ c.open-opened.ensures
