@@ -119,6 +119,7 @@ unranked_before i j = by_rank (λ b. (a : ℕ) → a < b → Before (unranked a)
 
 -- no history stands before itself
 not_by_update : (h : History) → UpdateByUpdate h h → ⊥
+not_by_update [] u = elim u [ ]
 not_by_update (x ∷ h) (inl u) = not_by_update h u
 not_by_update (x ∷ h) (inr u) = not_sooner x u.1
 

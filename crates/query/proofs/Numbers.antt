@@ -7,8 +7,6 @@ use mathlib.Core.List.{List, [], ◌∷◌, ◌++◌}
 use mathlib.Core.Option.{Option, some, none}
 use Prim.Native.Nat.{ℕ, ◌≤◌, ◌<◌}
 use lib.Dec.{leb}
-use types.Run.{OneOf}
-use denote.Enum.Declared.{tag_of}
 use borrow.Author.Tests.{leb-false}
 use native.Mathlib.Omega.{arith}
 use Rattle.gid.specs.declared.Update.{Update}
@@ -24,7 +22,6 @@ use Rattle.engine.specs.Promise.{Promise}
 use Rattle.record.specs.declared.splitter.Item.{Item}
 use Rattle.record.specs.declared.splitter.Item.TheVariants.{Nothing, Update as Read, Malformed, BadNames, TooMany, States, BadCount}
 use Rattle.record.specs.Items.{count_in}
-use Rattle.record.specs.contracts.splitter.Item.{the_type}
 use Rattle.record.specs.declared.splitter.Splitter.{Splitter}
 use Rattle.reader.specs.declared.driver.LineAnswer.{LineAnswer}
 use Rattle.reader.specs.declared.driver.Until.{Until}
@@ -146,19 +143,11 @@ head_below limit (States c ∷ l) s e = range_below c s e
 head_below limit (BadCount ∷ l) s e = absurd (let z : ◌≡◌ {A = ℕ} 0 1 = cc in omega arith)
 
 -- A head that says nothing of the states leaves 2,048.
-pub head_other : (a : Item) (s : ℕ) → OneOf (0 ∷ 1 ∷ 2 ∷ 3 ∷ 4 ∷ []) (tag_of the_type a) → out_of_range reader_states s ≡ head_refusal a s
-head_other Nothing s e = refl
-head_other (Read r) s e = refl
-head_other (Malformed n) s e = refl
-head_other (BadNames n) s e = refl
-head_other TooMany s e = refl
-head_other (States c) s (inl e) = absurd (omega arith)
-head_other (States c) s (inr (inl e)) = absurd (omega arith)
-head_other (States c) s (inr (inr (inl e))) = absurd (omega arith)
-head_other (States c) s (inr (inr (inr (inl e)))) = absurd (omega arith)
-head_other (States c) s (inr (inr (inr (inr e)))) = absurd (omega arith)
-head_other BadCount s (inl e) = absurd (omega arith)
-head_other BadCount s (inr (inl e)) = absurd (omega arith)
-head_other BadCount s (inr (inr (inl e))) = absurd (omega arith)
-head_other BadCount s (inr (inr (inr (inl e)))) = absurd (omega arith)
-head_other BadCount s (inr (inr (inr (inr e)))) = absurd (omega arith)
+pub head_other : (a : Item) (s : ℕ) → ((c : ℕ) → a ≡ States c → ⊥) → (a ≡ BadCount → ⊥) → out_of_range reader_states s ≡ head_refusal a s
+head_other Nothing s e f = refl
+head_other (Read r) s e f = refl
+head_other (Malformed n) s e f = refl
+head_other (BadNames n) s e f = refl
+head_other TooMany s e f = refl
+head_other (States c) s e f = absurd (e c refl)
+head_other BadCount s e f = absurd (f refl)

@@ -94,7 +94,7 @@ head_says s bad_count = refl
 pub lines_say : {start : Graph} {h : History} {g g' : Graph} {t t' : Tables} {l : List Passed} → NoCounts (items_of l) → Standing start h g t → Applies g t l g' t' → passed_text l ≡ lines_text start h (items_of l)
 unfolding passed_text lines_text
 lines_say n s no_line = refl
-lines_say n s (next c a) = rw (line_says s n.0 c, lines_say n.1 (line_right s n.0 c).1 a)
+lines_say {start} {h} n s (next {p = p} c a) = rw (line_says s n.0 c, lines_say {h = after_item start h p.item} n.1 (line_right s n.0 c).1 a)
 
 -- From the start of a record.
 pub begins_say : {start : Graph} {g g' : Graph} {t t' : Tables} {l : List Passed} → max_states ≤ start.n → Headed (items_of l) → Standing start [] g t → Applies g t l g' t' → passed_text l ≡ lines_text (start_of start (items_of l)) [] (items_of l)

@@ -10,4 +10,4 @@ pub returns-in-States : goal.returns-in-States
 returns-in-States c = rw c.in-States.is c.out_of_range.ensures
 
 pub returns-in_default : goal.returns-in_default
-returns-in_default c = c.out_of_range-in_default.ensures ∙ ap number (head_other c.args.count c.args.state c.in_default.in_default-own.keys3)
+returns-in_default c = c.out_of_range-in_default.ensures ∙ ap number (head_other c.args.count c.args.state c.in_default.not-States c.in_default.not-BadCount)
