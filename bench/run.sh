@@ -6,19 +6,23 @@ bash scripts/ready.sh
 mkdir -p target/bench/records
 page=${1:-bench/RESULTS.md}
 flags="-std=c11 -D_GNU_SOURCE -Wall -Wextra -Werror"
-clang=$(dirname "$(dirname "$(rt doc)")")/on/$(uname -m)/toolchain/bin/clang
+clang=$(dirname "$(rt doc)")/toolchain/bin/clang
 
 compile() { gcc $flags -O2 "$@"; }
 
 # The count of the totals has no call in the library for C. For the benchmark alone it gets one, in a crate that is proved and built in a
-# repository of its own over the crates here.
-tree=target/bench/tree
-mkdir -p $tree/crates/timed/{src,specs,proofs}
-for crate in gid tables totals; do ln -sfn "$PWD/crates/$crate" $tree/crates/$crate; done
-{ grep -E '^(gid|tables|totals):' crates.txt && echo 'timed: gid tables totals'; } >$tree/crates.txt
-cat >$tree/crates/timed/src/lib.rt <<'END'
+# repository of its own over copies of the crates here. It lies outside this one, where the gate takes a source file in no listed crate
+# for one that nothing proves.
+tree=$(mktemp -d)
+trap 'rm -rf "$tree"' EXIT
+mkdir -p "$tree"/crates/timed/src
+tar -C crates --exclude={gid,tables,totals}/out -c gid tables totals | tar -C "$tree/crates" -x
+{ grep -E '^(gid|tables|totals):' crates.txt && echo 'timed staticlib: gid tables totals'; } >"$tree/crates.txt"
+cat >"$tree/crates/timed/src/lib.rt" <<'END'
 // The count of the totals as a call for C.
-#[no_mangle]
+#![tactic(auto)]
+
+#[unsafe(no_mangle)]
 pub extern "C" fn proved_totals(
     n: usize,
     status: &[u8],
@@ -34,7 +38,7 @@ pub extern "C" fn proved_totals(
     *dead = totals.dead;
 }
 END
-(cd $tree && rt staticlib timed) >target/bench/timed.log 2>&1 || { cat target/bench/timed.log && exit 1; }
+(cd "$tree/crates/timed" && rt lib) >target/bench/timed.log 2>&1 || { cat target/bench/timed.log && exit 1; }
 
 for file in baseline counts members naive otherwise page; do compile -c bench/$file.c -o target/bench/$file.o; done
 compile -DCOUNT_MOVES -c bench/baseline.c -o target/bench/counted.o
@@ -49,7 +53,7 @@ compile -DCLANG_VERSION="\"$("$clang" -dumpversion)\"" bench/bench.c target/benc
     target/lib/libradvoinis.a -o target/bench/bench
 compile bench/listing.c target/bench/{baseline,counts}.o -o target/bench/listing
 compile bench/listings.c target/bench/page.o -o target/bench/listings
-compile bench/totals.c target/bench/{counts,clang_counts,gcc3_counts,otherwise,page}.o $tree/target/staticlib/libtimed.a -o target/bench/totals
+compile bench/totals.c target/bench/{counts,clang_counts,gcc3_counts,otherwise,page}.o "$tree/crates/timed/out/libtimed.a" -o target/bench/totals
 target/bench/bench "$page"
 target/bench/listings target/bin/listing target/bench/listing target/bench/records "$page"
 target/bench/totals "$page"

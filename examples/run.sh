@@ -4,10 +4,13 @@
 set -eu
 cd "$(dirname "$0")/.."
 
-# The kit runs the program from its source, and holds what it writes to the listing shown.
+# The kit runs the program from its source, in some twenty seconds, and what it writes is held to the listing shown.
 first_look() {
-    local said
-    said=$(rt try listing 2>&1) || { echo "$said" && return 1; }
+    local listing said
+    said=$(mktemp)
+    listing=$(cd crates/listing && rt try <stdin 2>"$said" && echo .) || { cat "$said" && rm "$said" && return 1; }
+    rm "$said"
+    printf %s "${listing%.}" | diff crates/listing/stdout -
     echo "== crates/listing/stdin, a record"
     cat crates/listing/stdin
     echo "== its listing"

@@ -1,6 +1,6 @@
 #!/usr/bin/env bash
 # The files that a stranger must believe: for each demand and each public call the files of specs/ that its statement rests on, and the
-# number of their lines. Prints a table for docs/PROMISES.md, or, with --check, says whether the page has it.
+# number of their lines. Prints a table for docs/PROMISES.md, with --write puts it there, and with --check says whether the page has it.
 set -eu
 cd "$(dirname "$0")/.."
 page=docs/PROMISES.md
@@ -13,16 +13,15 @@ believed() { # FILE..
             m = split(uses[f], a, " ")
             for (k = 1; k <= m; k++) visit(a[k])
         }
-        FILENAME == "crates.txt" { if (split($0, a, ":") > 1) order[++crates] = a[1]; next }
+        FILENAME == "crates.txt" { sub(/#.*/, ""); if (index($0, ":")) { split($0, a, /[ :]/); order[++crates] = a[1] } next }
         FNR == 1 { split(FILENAME, part, "/"); file = part[2] "/" substr(part[4], 1, length(part[4]) - 5); known[++files] = file }
-        /^use Rattle·[a-z]+(·specs)?\.specs\.[A-Z]/ {
-            name = $2
-            sub(/^Rattle·/, "", name)
-            crate = name
-            sub(/[·.].*/, "", crate)
-            sub(/^[a-z]+(·specs)?\.specs\./, "", name)
-            sub(/\..*/, "", name)
-            uses[file] = uses[file] " " crate "/" name
+        /^(pub )?use / {    # of the specs alone: the types that Rattle declares stand below specs.declared, and are those of src/
+            line = $0
+            while (match(line, /Rattle\.[a-z0-9_]+\.specs\.[A-Z][A-Za-z0-9_]*/)) {
+                split(substr(line, RSTART, RLENGTH), a, ".")
+                uses[file] = uses[file] " " a[2] "/" a[4]
+                line = substr(line, RSTART + RLENGTH)
+            }
         }
         END {
             count = split(wanted, w, " ")
@@ -80,7 +79,10 @@ table() {
     row '`radvoinis_status`' query/Answering
 }
 
-if [ "${1:-}" = --check ]; then
+if [ "${1:-}" = --write ]; then
+    written=$(awk -v table="$(table)" '/^\| What \| Its statement/ { print table; inside = 1 } !/^\|/ { inside = 0 } !inside' "$page")
+    echo "$written" >"$page"
+elif [ "${1:-}" = --check ]; then
     table | while IFS= read -r line; do
         grep -qxF -e "$line" "$page" || { echo "$page lacks: $line" && exit 1; }
     done
