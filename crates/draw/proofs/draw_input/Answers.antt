@@ -1,0 +1,32 @@
+-- `draw_input` serves and draws turn by turn. The invariant: some bytes have been read, and the drawing has come so far.
+-- Assumes nothing.
+use mathlib.Core.Path.{sym, ◌∙◌, ap}
+use native.Mathlib.Omega.{arith}
+use lib.Seq.{length-take-le}
+use Rattle.tables.specs.declared.lengths.Lengths.{Lengths}
+use Rattle.tables.specs.Tables.{tables_of}
+use Rattle.streams.proofs.Serving.{served_fits}
+use Rattle.draw.proofs.Turns.{Turns, turns_none, turns_more, turns_ended, turns_up}
+use borrow.Author.Rules.{rules}
+use Rattle.draw.proofs.draw_input.Goals as goal
+
+pub loop-init : goal.loop-init
+loop-init c = turns_none c.args.input.now c.args.output.now c.begin-drawer.ensures c.requires.0 c.requires.1
+
+pub returns-in_default : goal.returns-in_default
+returns-in_default c = turns_ended c.loop.invariant c.serve-served.ensures c.is_over.ensures.0
+
+pub slice_bounds-draw-end : goal.slice_bounds-draw-end
+slice_bounds-draw-end c = served_fits c.serve-served.ensures c.in-Piece.is c.loop.invariant.fits
+
+pub slice_bounds-draw-end-in-loop : goal.slice_bounds-draw-end-in-loop
+slice_bounds-draw-end-in-loop c = sym (length-take-le _ _ (served_fits c.serve-served.ensures c.in-Piece.is c.loop.invariant.fits))
+
+pub loop-smaller : goal.loop-smaller
+loop-smaller c = omega (arith, c.loop-test.true)
+
+pub loop-preserved : goal.loop-preserved
+loop-preserved c = turns_more c.loop.invariant c.serve-served.ensures c.in-Piece.is c.serve-served.auto.1.1.1.1.0 c.draw-next.ensures
+
+pub returns : goal.returns
+returns c = turns_up c.loop.invariant
