@@ -13,4 +13,4 @@ pub returns-in-67 : goal.returns-in-67
 returns-in-67 c = rw c.in-67.is
 
 pub returns-in_default : goal.returns-in_default
-returns-in_default c = rw (ne_eqb _ _ (λ e. omega arith), ne_eqb _ _ (λ e. omega arith), ne_eqb _ _ (λ e. omega arith))
+returns-in_default c = rw (ne_eqb c.args.kind 69 (λ e. omega arith), ne_eqb c.args.kind 84 (λ e. omega arith), ne_eqb c.args.kind 67 (λ e. omega arith))

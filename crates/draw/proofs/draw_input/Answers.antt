@@ -11,22 +11,16 @@ use borrow.Author.Rules.{rules}
 use Rattle.draw.proofs.draw_input.Goals as goal
 
 pub loop-init : goal.loop-init
-loop-init c = turns_none c.args.input.now c.args.output.now c.begin-drawer.ensures c.requires.0 c.requires.1
+loop-init g c = turns_none c.args.input.now c.args.output.now c.begin-drawer.ensures c.requires.0 c.requires.1
 
 pub returns-in_default : goal.returns-in_default
-returns-in_default c = turns_ended c.loop.invariant c.serve-served.ensures c.is_over.ensures.0
+returns-in_default g c = turns_ended c.loop.invariant c.serve-served.ensures c.is_over.ensures.0
 
 pub slice_bounds-draw-end : goal.slice_bounds-draw-end
-slice_bounds-draw-end c = served_fits c.serve-served.ensures c.in-Piece.is c.loop.invariant.fits
-
-pub slice_bounds-draw-end-in-loop : goal.slice_bounds-draw-end-in-loop
-slice_bounds-draw-end-in-loop c = sym (length-take-le _ _ (served_fits c.serve-served.ensures c.in-Piece.is c.loop.invariant.fits))
-
-pub loop-smaller : goal.loop-smaller
-loop-smaller c = omega (arith, c.loop-test.true)
+slice_bounds-draw-end g c = served_fits c.serve-served.ensures c.in-Piece.is c.loop.invariant.fits
 
 pub loop-preserved : goal.loop-preserved
-loop-preserved c = turns_more c.loop.invariant c.serve-served.ensures c.in-Piece.is c.serve-served.auto.1.1.1.1.0 c.draw-next.ensures
+loop-preserved g c = turns_more c.loop.invariant c.serve-served.ensures c.in-Piece.is c.serve-served.auto.input c.draw-next.ensures
 
 pub returns : goal.returns
-returns c = turns_up c.loop.invariant
+returns g c = turns_up c.loop.invariant

@@ -11,7 +11,4 @@ use borrow.Author.Rules.{rules}
 use Rattle.draw.proofs.draw_input.Given as goal
 
 abbrev pub invariant-loop : goal.invariant-loop
-invariant-loop l = Turns l.initial.input l.initial.output (tables_of l.initial.status l.initial.marks l.initial.from l.initial.to l.initial.key l.initial.successor l.initial.news l.initial.in_head l.initial.out_head l.initial.queue l.initial.visited l.initial.in_next l.initial.out_next) l.drawer l.count l.input l.output (tables_of l.status l.marks l.from l.to l.key l.successor l.news l.in_head l.out_head l.queue l.visited l.in_next l.out_next)
-
-abbrev pub decreases-loop : goal.decreases-loop
-decreases-loop l = l.turns
+invariant-loop g l = Turns l.initial.input l.initial.output (tables_of l.initial.status l.initial.marks l.initial.from l.initial.to l.initial.key l.initial.successor l.initial.news l.initial.in_head l.initial.out_head l.initial.queue l.initial.visited l.initial.in_next l.initial.out_next) l.drawer l.count l.input l.output (tables_of l.status l.marks l.from l.to l.key l.successor l.news l.in_head l.out_head l.queue l.visited l.in_next l.out_next)

@@ -8,4 +8,4 @@ use Rattle.draw.proofs.draw_record.Goals as goal
 
 pub draw_input-requires : goal.draw_input-requires
 unfolding visited_length
-draw_input-requires c = (omega arith, refl)
+draw_input-requires g c = (omega arith, refl)

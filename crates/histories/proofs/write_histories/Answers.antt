@@ -10,7 +10,7 @@ use borrow.Author.Rules.{rules}
 use Rattle.histories.proofs.write_histories.Goals as goal
 
 pub returns : goal.returns
-returns c =
+returns g c =
     let whole = c.enumerate-end.ensures.whole c.requires in
     let e : length enumeration_text ≡ c.enumerate-end.result = omega (arith, whole.after) in
     ap (λ (n : ℕ). take n c.enumerate-end.new.output) e ∙ placed_take whole (omega arith)

@@ -8,4 +8,4 @@ use Rattle.listing.proofs.list_record.Goals as goal
 
 pub list_input-requires : goal.list_input-requires
 unfolding visited_length
-list_input-requires c = (omega arith, refl)
+list_input-requires g c = (omega arith, refl)
