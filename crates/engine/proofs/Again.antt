@@ -34,7 +34,7 @@ use Rattle.tables.proofs.Refusing.{accepted_again}
 use Rattle.engine.specs.declared.Answer.{Answer}
 use Rattle.engine.specs.declared.Answer.TheVariants.{Accepted, Refused}
 use Rattle.engine.specs.Answers.{answer_number, news_count}
-use Rattle.engine.specs.Effects.{mark_at, set_marks, named_byte, name_at, names_after, only_named}
+use Rattle.engine.specs.Effects.{mark_at, named_byte, name_at, only_named}
 use Rattle.engine.specs.Preparing.{InRange, status_again, marks_again}
 use Rattle.engine.specs.Promise.{NewsKept, AcceptedUpdate, Promise}
 use Rattle.engine.proofs.Keeping.{marks_kept, names_kept}

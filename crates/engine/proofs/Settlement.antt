@@ -12,7 +12,7 @@ use Rattle.gid.specs.Statuses.{status_live, status_dead, status_unknown, status_
 use Rattle.gid.specs.News.{below}
 use Rattle.gid.proofs.News.{below_same, below_more}
 use Rattle.tables.specs.Visits.{NoneVisited, marked}
-use Rattle.search.specs.Settling.{told_all, settled_from, Settled}
+use Rattle.search.specs.Settling.{settled_from, Settled}
 use Rattle.search.proofs.Settling.{told_same}
 use Rattle.engine.specs.Effects.{named_byte}
 

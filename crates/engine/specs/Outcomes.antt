@@ -1,6 +1,6 @@
 -- What is to hold of the tables that a search writes, after an update on tables that fit.
 -- Assumes nothing.
-use Rattle.std.specs.Prelude.{◌≡◌, List, ◌∷◌, ℕ, ◌<◌, get_or, take}
+use Rattle.std.specs.Prelude.{◌≡◌, ◌∷◌, ℕ, ◌<◌, get_or, take}
 use Rattle.gid.specs.declared.Update.{Update}
 use Rattle.gid.specs.Histories.{History}
 use Rattle.gid.specs.Statuses.{status}

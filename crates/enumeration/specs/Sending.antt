@@ -1,6 +1,6 @@
 -- A history that is sent to the engine: "Before each release we run the engine over everything short" (document 02, #114).
 -- Assumes nothing.
-use Rattle.std.specs.Prelude.{◌≡◌, true, ℕ, get_or}
+use Rattle.std.specs.Prelude.{◌≡◌, true, get_or}
 use Rattle.gid.specs.Histories.{History}
 use Rattle.tables.specs.declared.Graph.{Graph}
 use Rattle.tables.specs.Tables.{Tables, long_enough}

@@ -1,6 +1,6 @@
 -- Which histories are small, and their order. Document 02, #114: "every legal history of at most three updates over two states, key 0, no ranges: shorter ones first, then update by update with steps before terminal marks before closes, lower from first, lower to next."
 -- Assumes nothing.
-use Rattle.std.specs.Prelude.{◌≡◌, ◌⊎◌, ℕ, ◌<◌, ◌≤◌, length}
+use Rattle.std.specs.Prelude.{◌≡◌, ◌⊎◌, ◌<◌, ◌≤◌, length}
 use mathlib.Core.List.{List, [], ◌∷◌, Memᴰ}
 use Rattle.gid.specs.declared.Update.{Update}
 use Rattle.gid.specs.declared.Update.TheVariants.{Step, Terminal, Close}

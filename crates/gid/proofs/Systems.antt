@@ -1,6 +1,5 @@
 -- The laws of systems of arcs: live is the least set and dead the largest, the two are apart, verdicts stay where a system grows at nodes that are not final, and pruning changes none.
 -- Assumes nothing.
-use mathlib.Core.Logic.{◌↔◌}
 use Prim.Native.Nat.{ℕ}
 use Rattle.gid.specs.Systems.{System, LiveIn, goal, by_arc, ReachesIn, here, along, DeadIn, Within, Grows, Prunes}
 

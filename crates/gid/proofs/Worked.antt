@@ -1,11 +1,11 @@
 -- Two small systems that are no history's: a pattern of two states over a graph of two, and an arc into a live and a dead node.
 -- Assumes nothing.
-use mathlib.Core.Path.{◌≡◌, refl, sym, ◌∙◌}
+use mathlib.Core.Path.{◌≡◌, refl}
 use mathlib.Core.Logic.{◌⊎◌, inl, inr}
 use Prim.Native.Nat.{ℕ}
 use native.Mathlib.Omega.{arith}
 use Rattle.gid.specs.Systems.{System, LiveIn, goal, by_arc, DeadIn, here}
-use Rattle.gid.proofs.Systems.{live_least, dead_greatest, dead_not_live, dead_target}
+use Rattle.gid.proofs.Systems.{dead_greatest, dead_not_live, dead_target}
 
 -- An arc with one target.
 abbrev Is : ℕ → ℕ → ℕ → ℕ → ℕ → ℕ → Type 0

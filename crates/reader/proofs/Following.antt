@@ -1,7 +1,6 @@
 -- The laws of the fold over a record's lines: no line, one line more, and lines behind lines; what it keeps, and where it stands.
 -- Assumes nothing.
 use mathlib.Core.Path.{◌≡◌, refl, sym, ◌∙◌, ap, subst}
-use mathlib.Core.Logic.{inl, inr}
 use mathlib.Core.Bool.{true, false, false≢true}
 use mathlib.Core.List.{List, [], ◌∷◌, ◌++◌, append_assoc, append-nil}
 use mathlib.Core.Option.{Option, some, none}
@@ -28,7 +27,7 @@ use Rattle.record.specs.declared.splitter.Item.TheVariants.{Nothing as NoLine, U
 use Rattle.record.specs.declared.splitter.Splitter.{Splitter}
 use Rattle.record.specs.Items.{item_line, max_lines}
 use Rattle.record.specs.Splitting.{after_part, told, tells, run, after_bytes}
-use Rattle.record.proofs.Splitting.{bytes_then, tells_then, run_tells, Parted, parted, part_line}
+use Rattle.record.proofs.Splitting.{bytes_then, tells_then, run_tells, parted, part_line}
 use Rattle.record.proofs.Heading.{NoCount, NoCounts, Headed}
 use Rattle.reader.specs.declared.driver.LineAnswer.{LineAnswer}
 use Rattle.reader.specs.declared.driver.LineAnswer.TheVariants.{Nothing}

@@ -18,7 +18,7 @@ use Rattle.engine.specs.declared.Engine.{Engine}
 use Rattle.record.specs.declared.splitter.Item.{Item}
 use Rattle.record.specs.declared.splitter.Item.TheVariants.{Nothing as NoLine, Update as Sent, Malformed, BadNames, TooMany, States, BadCount}
 use Rattle.record.specs.declared.splitter.Splitter.{Splitter}
-use Rattle.record.specs.Items.{item_line, items, count_in}
+use Rattle.record.specs.Items.{item_line, items}
 use Rattle.record.specs.Splitting.{started, last_newlines}
 use Rattle.record.proofs.Heading.{NoCounts, Headed, items_headed, bad_alone}
 use Rattle.reader.specs.declared.ReadAnswer.{ReadAnswer}

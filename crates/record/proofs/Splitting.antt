@@ -27,8 +27,8 @@ use Rattle.record.specs.declared.splitter.Fed.{Fed}
 use Rattle.record.specs.Text.{states_line, names}
 use Rattle.record.specs.Grammar.{value, line_of, count_of}
 use Rattle.record.specs.Lines.{lines, before}
-use Rattle.record.specs.Items.{same, line_item, max_lines, further, from_names, count_items, from_count, all, items, count_in, item_line}
-use Rattle.record.specs.Buffer.{empty_line, with_byte, with_bytes, filled_from, line_in, is_names_in, is_states_in, line_count}
+use Rattle.record.specs.Items.{same, line_item, max_lines, further, from_names, count_items, from_count, all, items, item_line}
+use Rattle.record.specs.Buffer.{empty_line, with_byte, with_bytes, line_in, is_names_in, is_states_in, line_count}
 use Rattle.record.specs.Parsing.{parsed, parsed_count, is_count}
 use Rattle.record.specs.Splitting.{at, fed, advanced, started, names_fed, after_names, count_fed, after_first, after_further, in_phase, after_line, after_byte, after_part, is_head, awaited, pending, last_newlines, told, tells, run, after_bytes, item_of}
 use Rattle.record.proofs.Sameness.{other_length}

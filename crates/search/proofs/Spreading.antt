@@ -1,7 +1,7 @@
 -- The laws of a spread: how it begins, how it goes on from one queued node to the next, and that it ends with all that is reached.
 -- Assumes nothing.
 use mathlib.Core.Path.{◌≡◌, refl, sym, ◌∙◌}
-use mathlib.Core.Logic.{◌⊎◌, inl, inr, ⊎_elim}
+use mathlib.Core.Logic.{inl, inr, ⊎_elim}
 use mathlib.Core.Bool.{Bool, true, false, not, false≢true}
 use mathlib.Core.List.{List}
 use Prim.Native.Nat.{ℕ, ◌+◌, ◌≤◌, ◌<◌}
@@ -13,7 +13,7 @@ use Rattle.gid.specs.Systems.{Arcs}
 use Rattle.tables.specs.Tables.{visited_length}
 use Rattle.tables.specs.Visits.{marked}
 use Rattle.tables.proofs.Keeping.{kept_none}
-use Rattle.tables.proofs.Marking.{has-mark, marked_mark, marked_mark_other, mark_grows}
+use Rattle.tables.proofs.Marking.{has-mark, marked_mark, marked_mark_other}
 use Rattle.search.specs.declared.spread.Span.{Span}
 use Rattle.search.specs.Spreading.{Reached, start, back, unless, Before, unvisited, Queued, Spread}
 use Rattle.search.specs.Offering.{Begun, Spreading, Offers, SourcesVisited}

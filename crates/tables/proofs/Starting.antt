@@ -7,7 +7,7 @@ use Prim.Native.Nat.{ℕ, ◌<◌}
 use native.Mathlib.Omega.{arith}
 use lib.ListN.{get_or}
 use Rattle.gid.specs.Histories.{listed}
-use Rattle.gid.specs.Statuses.{is_named, is_terminal, is_closed, status, status_unknown}
+use Rattle.gid.specs.Statuses.{is_named, is_terminal, is_closed, status_unknown}
 use Rattle.gid.proofs.Statuses.{status-unseen}
 use Rattle.gid.proofs.Chains.{successor_rule}
 use Rattle.tables.specs.declared.Graph.{Graph}

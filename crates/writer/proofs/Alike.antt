@@ -1,11 +1,11 @@
 -- Two histories with the same updates, in whatever order, have the same marks and statuses.
 -- Assumes nothing.
-use mathlib.Core.Path.{◌≡◌, refl}
+use mathlib.Core.Path.{◌≡◌}
 use Prim.Native.Nat.{ℕ}
 use Rattle.gid.specs.declared.Update.TheVariants.{Terminal, Close}
-use Rattle.gid.specs.Histories.{History, IsNamed}
+use Rattle.gid.specs.Histories.{History}
 use Rattle.gid.specs.Statuses.{is_named, is_terminal, is_closed, status}
-use Rattle.gid.proofs.Decide.{same_test, refutes}
+use Rattle.gid.proofs.Decide.{same_test}
 use Rattle.gid.proofs.Paths.{Inside}
 use Rattle.gid.proofs.Tests.{decides_named, decides_terminal, decides_closed}
 use Rattle.gid.proofs.Deadness.{live_within}

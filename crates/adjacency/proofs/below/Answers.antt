@@ -1,5 +1,4 @@
 use borrow.Author.Tests.{lt-ltb, le-ltb}
-use Rattle.adjacency.proofs.below.Reads as reads
 use Rattle.adjacency.proofs.below.Goals as goal
 
 -- src/lib.rt:16:1

@@ -1,9 +1,5 @@
 use mathlib.Core.Path.{refl}
 use Rattle.adjacency.proofs.Walks.{first_inside}
-use borrow.Author.Rules.{rules}
-use Rattle.adjacency.proofs.first.Reads as reads
-use Rattle.adjacency.proofs.below.Reads as below-reads
-use Rattle.tables.proofs.wide.Reads as wide-reads
 use Rattle.adjacency.proofs.first.Goals as goal
 
 -- src/lib.rt:23:1

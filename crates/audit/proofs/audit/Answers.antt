@@ -1,11 +1,8 @@
 -- `audit` keeps its promise: a refusal by the tests 1 to 4, or a yes or a no by the facts.
 -- Assumes nothing.
-use mathlib.Core.List.{List, []}
-use mathlib.Core.Path.{◌≡◌, sym, ◌∙◌}
-use Prim.Native.Nat.{ℕ}
-use borrow.Author.Rules.{rules}
-use Rattle.tables.specs.Refused.{lent_number}
-use Rattle.tables.specs.Tables.{Tables, nodes_of, tables_of, enough, check_needs, lengths}
+use mathlib.Core.List.{[]}
+use mathlib.Core.Path.{sym, ◌∙◌}
+use Rattle.tables.specs.Tables.{tables_of}
 use Rattle.audit.proofs.Judging.{few, long-enough, says_yes, says_no, says_refused}
 use Rattle.audit.proofs.audit.Goals as goal
 
@@ -17,9 +14,12 @@ returns-then-refused-ne0 c =
 pub judge-requires : goal.judge-requires
 judge-requires c =
     let passed = (sym (rw (c.enough_to_check.ensures, c.nodes.ensures) at c.lent-refused.ensures)) ∙ c.if-refused-ne0.false in
-    record { n_nonzero = few c.args.graph (let a = c.args in
-    tables_of a.status.now a.marks.now a.from.now a.to.now a.key.now a.successor.now [] a.in_head.now a.out_head.now a.queue.now a.visited.now a.in_next.now a.out_next.now) passed; long = long-enough c.args.graph (let a = c.args in
-    tables_of a.status.now a.marks.now a.from.now a.to.now a.key.now a.successor.now [] a.in_head.now a.out_head.now a.queue.now a.visited.now a.in_next.now a.out_next.now) passed }
+    record {
+      n_nonzero = few c.args.graph (let a = c.args in
+          tables_of a.status.now a.marks.now a.from.now a.to.now a.key.now a.successor.now [] a.in_head.now a.out_head.now a.queue.now a.visited.now a.in_next.now a.out_next.now) passed;
+      long = long-enough c.args.graph (let a = c.args in
+          tables_of a.status.now a.marks.now a.from.now a.to.now a.key.now a.successor.now [] a.in_head.now a.out_head.now a.queue.now a.visited.now a.in_next.now a.out_next.now) passed;
+    }
 
 pub returns-then-judge : goal.returns-then-judge
 returns-then-judge c =

@@ -1,7 +1,6 @@
 -- `answer_code` meets its contract.
 -- Assumes nothing.
 use native.Mathlib.Omega.{arith}
-use borrow.Author.Rules.{rules}
 use Rattle.capi.proofs.answer_code.Goals as goal
 
 pub overflow_cast-result : goal.overflow_cast-result

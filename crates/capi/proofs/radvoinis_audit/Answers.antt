@@ -4,7 +4,6 @@ use mathlib.Core.Path.{sym, ap}
 use Rattle.audit.specs.declared.answer.Audit.{Audit}
 use Rattle.audit.specs.Audited.{audit_outcome}
 use Rattle.capi.specs.Calls.{code_by, yes_code}
-use borrow.Author.Rules.{rules}
 use Rattle.capi.proofs.radvoinis_audit.Goals as goal
 
 pub returns-in-Fits : goal.returns-in-Fits

@@ -4,7 +4,6 @@ use mathlib.Core.Path.{◌∙◌, refl, ap}
 use lib.Dec.{leb}
 use lib.ListN.{length}
 use Rattle.capi.proofs.Few.{part_length}
-use borrow.Author.Rules.{rules}
 use Rattle.capi.proofs.radvoinis_news_len.Goals as goal
 
 pub returns : goal.returns

@@ -2,7 +2,6 @@
 -- Assumes nothing.
 use mathlib.Core.Path.{sym, ◌∙◌, ap}
 use Rattle.tables.specs.Refused.{status_outcome}
-use borrow.Author.Rules.{rules}
 use Rattle.capi.proofs.radvoinis_state_status.Goals as goal
 
 pub returns-in-Byte : goal.returns-in-Byte

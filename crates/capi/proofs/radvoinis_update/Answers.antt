@@ -3,7 +3,6 @@
 use mathlib.Core.Path.{sym, ◌∙◌, refl}
 use Rattle.capi.specs.Calls.{unknown, answered}
 use Rattle.capi.proofs.Few.{few_news}
-use borrow.Author.Rules.{rules}
 use Rattle.capi.proofs.radvoinis_update.Goals as goal
 
 pub answer_code-requires : goal.answer_code-requires

@@ -5,7 +5,6 @@ use Prim.Native.Nat.{ℕ}
 use Rattle.gid.specs.Outcomes.{Outcome}
 use Rattle.writer.specs.Answering.{written_outcome}
 use Rattle.capi.specs.Calls.{code_by, place_after}
-use borrow.Author.Rules.{rules}
 use Rattle.capi.proofs.radvoinis_write.Goals as goal
 
 pub returns-in-End : goal.returns-in-End

@@ -3,7 +3,6 @@
 use mathlib.Core.Path.{sym, ◌∙◌, ap}
 use Rattle.tables.specs.Refused.{lent_number}
 use Rattle.capi.proofs.Few.{long_of, kind_refused, kind_malformed}
-use borrow.Author.Rules.{rules}
 use Rattle.capi.proofs.refused_kind.Goals as goal
 
 pub returns-then-lent-ne0 : goal.returns-then-lent-ne0

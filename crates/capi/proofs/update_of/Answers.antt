@@ -1,5 +1,4 @@
-use mathlib.Core.Path.{sym, ◌∙◌, subst, refl, ap}
-use borrow.Author.Tests.{eq-eqb, ne_eqb}
+use borrow.Author.Tests.{ne_eqb}
 use Rattle.std.proofs.Common.{arith}
 use Rattle.capi.proofs.update_of.Goals as goal
 

@@ -3,7 +3,6 @@
 use Rattle.tables.specs.Tables.{visited_length}
 use mathlib.Core.Path.{◌∙◌, refl}
 use Rattle.query.proofs.Asking.{answer_opened}
-use borrow.Author.Rules.{rules}
 use Rattle.capi_record.proofs.radvoinis_status.Goals as goal
 
 pub returns : goal.returns

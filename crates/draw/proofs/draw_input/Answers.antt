@@ -1,13 +1,7 @@
 -- `draw_input` serves and draws turn by turn. The invariant: some bytes have been read, and the drawing has come so far.
 -- Assumes nothing.
-use mathlib.Core.Path.{sym, ◌∙◌, ap}
-use native.Mathlib.Omega.{arith}
-use lib.Seq.{length-take-le}
-use Rattle.tables.specs.declared.lengths.Lengths.{Lengths}
-use Rattle.tables.specs.Tables.{tables_of}
 use Rattle.streams.proofs.Serving.{served_fits}
-use Rattle.draw.proofs.Turns.{Turns, turns_none, turns_more, turns_ended, turns_up}
-use borrow.Author.Rules.{rules}
+use Rattle.draw.proofs.Turns.{turns_none, turns_more, turns_ended, turns_up}
 use Rattle.draw.proofs.draw_input.Goals as goal
 
 pub loop-init : goal.loop-init

@@ -6,7 +6,6 @@ use native.Mathlib.Omega.{arith}
 use lib.ListN.{length, take}
 use Rattle.enumeration.specs.Lines.{enumeration_text}
 use Rattle.record.proofs.Placing.{placed_take}
-use borrow.Author.Rules.{rules}
 use Rattle.histories.proofs.write_histories.Goals as goal
 
 pub returns : goal.returns

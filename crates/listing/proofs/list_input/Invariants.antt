@@ -1,13 +1,7 @@
 -- `list_input` serves and lists turn by turn. The invariant: some bytes have been read and written, and the listing has come so far.
 -- Assumes nothing.
-use mathlib.Core.Path.{sym, ◌∙◌, ap}
-use native.Mathlib.Omega.{arith}
-use lib.Seq.{length-take-le}
-use Rattle.tables.specs.declared.lengths.Lengths.{Lengths}
 use Rattle.tables.specs.Tables.{tables_of}
-use Rattle.streams.proofs.Serving.{served_fits}
-use Rattle.listing.proofs.Turns.{Turns, turns_none, turns_more, turns_ended, turns_up}
-use borrow.Author.Rules.{rules}
+use Rattle.listing.proofs.Turns.{Turns}
 use Rattle.listing.proofs.list_input.Given as goal
 
 abbrev pub invariant-loop : goal.invariant-loop

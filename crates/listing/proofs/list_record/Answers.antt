@@ -3,7 +3,6 @@
 use mathlib.Core.Path.{refl}
 use native.Mathlib.Omega.{arith}
 use Rattle.tables.specs.Tables.{visited_length}
-use borrow.Author.Rules.{rules}
 use Rattle.listing.proofs.list_record.Goals as goal
 
 pub list_input-requires : goal.list_input-requires

@@ -3,7 +3,6 @@
 use mathlib.Core.Path.{◌∙◌, ap}
 use Rattle.tables.specs.Refused.{number}
 use Rattle.query.proofs.Numbers.{head_other}
-use borrow.Author.Rules.{rules}
 use Rattle.query.proofs.head_refusal.Goals as goal
 
 pub returns-in-States : goal.returns-in-States

@@ -3,7 +3,6 @@
 use native.Mathlib.Omega.{arith}
 use Rattle.reader.specs.declared.driver.LineAnswer.TheVariants.{Refused}
 use Rattle.query.specs.Answering.{Few}
-use borrow.Author.Rules.{rules}
 use Rattle.query.proofs.refused_or.Goals as goal
 
 pub overflow_add-result : goal.overflow_add-result

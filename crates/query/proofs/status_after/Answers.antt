@@ -8,7 +8,6 @@ use Rattle.record.proofs.Splitting.{last_short, last_part}
 use Rattle.query.specs.Answering.{head_refusal}
 use Rattle.query.proofs.Numbers.{head_few, number_some, head_none, advances_few}
 use Rattle.query.proofs.Asking.{asks_short, asks_head, asks_refused, asks_long, asks_last}
-use borrow.Author.Rules.{rules}
 use Rattle.query.proofs.status_after.Goals as goal
 
 pub overflow_add-result : goal.overflow_add-result

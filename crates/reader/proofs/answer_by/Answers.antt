@@ -1,6 +1,5 @@
 -- `answer_by` meets its contract.
 -- Assumes nothing.
-use borrow.Author.Rules.{rules}
 use Rattle.reader.proofs.answer_by.Goals as goal
 
 pub returns-in-Nothing : goal.returns-in-Nothing

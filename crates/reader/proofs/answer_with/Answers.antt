@@ -1,6 +1,5 @@
 -- `answer_with` meets its contract.
 -- Assumes nothing.
-use borrow.Author.Rules.{rules}
 use Rattle.reader.proofs.answer_with.Goals as goal
 
 pub returns-in-Nothing : goal.returns-in-Nothing

@@ -1,8 +1,6 @@
 -- `read` opens the tables, reads the record to its first refusal, and then what is left of it.
 -- Assumes nothing.
-use mathlib.Core.Path.{◌∙◌}
 use Rattle.reader.proofs.Whole.{reads_refused, reads_by}
-use borrow.Author.Rules.{rules}
 use Rattle.reader.proofs.read.Goals as goal
 
 pub returns-in-Refused : goal.returns-in-Refused

@@ -1,12 +1,11 @@
 -- `read_rest` reads a record to its end, and the lines that lack their newline.
 -- Assumes nothing.
-use mathlib.Core.Path.{sym, ◌∙◌}
+use mathlib.Core.Path.{sym}
 use native.Mathlib.Omega.{arith}
 use lib.Seq.{length-take-le}
 use Rattle.record.proofs.Splitting.{last_short, last_part}
 use Rattle.reader.specs.Advancing.{rests}
 use Rattle.reader.proofs.Ending.{last_all}
-use borrow.Author.Rules.{rules}
 use Rattle.reader.proofs.read_rest.Goals as goal
 
 pub slice_bounds-advance-end : goal.slice_bounds-advance-end

@@ -1,7 +1,6 @@
 -- `find_in_block` takes a closer look only where a place of the block has both ends: elsewhere none holds an equal step.
 -- Assumes nothing.
 use mathlib.Core.Path.{sym}
-use borrow.Author.Rules.{rules}
 use Rattle.steplist.proofs.Places.{block_none}
 use Rattle.steplist.proofs.find_in_block.Goals as goal
 

@@ -1,11 +1,8 @@
 -- `find_step` answers the first place of an equal step. The loop's invariant: none is before the block that starts at start. The measure is the number of places left.
 -- Assumes nothing.
 use mathlib.Core.Path.{◌≡◌, sym, ◌∙◌, ap}
-use mathlib.Core.Option.{none}
-use Prim.Native.Nat.{◌≤◌, ◌-◌}
 use native.Mathlib.Omega.{arith}
-use borrow.Author.Rules.{rules}
-use Rattle.tables.specs.Listing.{is_equal_at, first_place}
+use Rattle.tables.specs.Listing.{is_equal_at}
 use Rattle.steplist.specs.Places.{place_of}
 use Rattle.steplist.proofs.Places.{first_none, found_stays}
 use Rattle.steplist.proofs.find_step.Goals as goal

@@ -1,10 +1,7 @@
 -- `has_pair` answers no only where no place of the block has both ends. The loop's invariant: that of the places passed. The measure is the number of places left.
 -- Assumes nothing.
-use mathlib.Core.Path.{◌≡◌}
-use mathlib.Core.Bool.{false}
-use Prim.Native.Nat.{◌≤◌, ◌-◌}
+use Prim.Native.Nat.{◌-◌}
 use native.Mathlib.Omega.{arith}
-use Rattle.steplist.specs.Blocks.{NoPair}
 use Rattle.steplist.proofs.Places.{pair_next}
 use Rattle.steplist.proofs.has_pair.Goals as goal
 

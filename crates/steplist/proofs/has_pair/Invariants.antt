@@ -3,9 +3,7 @@
 use mathlib.Core.Path.{◌≡◌}
 use mathlib.Core.Bool.{false}
 use Prim.Native.Nat.{◌≤◌, ◌-◌}
-use native.Mathlib.Omega.{arith}
 use Rattle.steplist.specs.Blocks.{NoPair}
-use Rattle.steplist.proofs.Places.{pair_next}
 use Rattle.steplist.proofs.has_pair.Given as goal
 
 abbrev pub invariant-loop-ahead : goal.invariant-loop-ahead

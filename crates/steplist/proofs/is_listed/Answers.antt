@@ -1,7 +1,6 @@
 -- `is_listed` answers whether an equal step is listed: yes where the quick look met one, and elsewhere what the list says.
 -- Assumes nothing.
 use mathlib.Core.Path.{sym, ◌∙◌, ap}
-use borrow.Author.Rules.{rules}
 use Rattle.tables.specs.Listing.{is_found}
 use Rattle.steplist.proofs.is_listed.Goals as goal
 

@@ -1,10 +1,9 @@
 -- `look` answers the first place before end. The loop's invariant: none of the places passed holds an equal step. The measure is the number of places left.
 -- Assumes nothing.
 use mathlib.Core.Path.{◌≡◌, sym, ◌∙◌}
-use mathlib.Core.Option.{none}
-use Prim.Native.Nat.{◌≤◌, ◌-◌, ◌+◌}
+use Prim.Native.Nat.{◌-◌, ◌+◌}
 use native.Mathlib.Omega.{arith}
-use Rattle.tables.specs.Listing.{is_equal_at, first_place}
+use Rattle.tables.specs.Listing.{is_equal_at}
 use Rattle.steplist.proofs.Places.{first_at, first_next, found_stays}
 use Rattle.steplist.proofs.look.Goals as goal
 

@@ -1,11 +1,9 @@
 -- `look` answers the first place before end. The loop's invariant: none of the places passed holds an equal step. The measure is the number of places left.
 -- Assumes nothing.
-use mathlib.Core.Path.{◌≡◌, sym, ◌∙◌}
+use mathlib.Core.Path.{◌≡◌}
 use mathlib.Core.Option.{none}
-use Prim.Native.Nat.{◌≤◌, ◌-◌, ◌+◌}
-use native.Mathlib.Omega.{arith}
-use Rattle.tables.specs.Listing.{is_equal_at, first_place}
-use Rattle.steplist.proofs.Places.{first_at, first_next, found_stays}
+use Prim.Native.Nat.{◌≤◌, ◌-◌}
+use Rattle.tables.specs.Listing.{first_place}
 use Rattle.steplist.proofs.look.Given as goal
 
 abbrev pub invariant-loop-left : goal.invariant-loop-left

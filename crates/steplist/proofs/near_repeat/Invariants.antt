@@ -1,11 +1,6 @@
 -- `near_repeat` answers yes only where an equal step is listed. The loop's invariant: the walk stands at a listed step or at its end. The measure is the number of steps left to look at.
 -- Assumes nothing.
-use mathlib.Core.Path.{sym, ◌∙◌}
-use mathlib.Core.Bool.{false≢true}
-use Prim.Native.Nat.{◌≤◌, ◌-◌}
-use native.Mathlib.Omega.{arith}
-use Rattle.tables.specs.Listing.{is_equal_at}
-use Rattle.steplist.proofs.Places.{found_by}
+use Prim.Native.Nat.{◌≤◌}
 use Rattle.steplist.proofs.near_repeat.Given as goal
 
 abbrev pub invariant-loop-left : goal.invariant-loop-left

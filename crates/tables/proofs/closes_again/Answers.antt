@@ -3,7 +3,6 @@
 use mathlib.Core.Path.{subst}
 use Prim.Native.Nat.{◌<◌}
 use lib.ListN.{length}
-use borrow.Author.Rules.{rules}
 use Rattle.gid.specs.declared.Update.{Update}
 use Rattle.gid.specs.Updates.{source}
 use Rattle.tables.proofs.closes_again.Goals as goal

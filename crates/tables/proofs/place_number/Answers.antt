@@ -1,6 +1,5 @@
 -- `place_number` gives 9 to a step alone.
 -- Assumes nothing.
-use borrow.Author.Rules.{rules}
 use Rattle.tables.specs.Refused.{place_number}
 use Rattle.tables.proofs.place_number.Goals as goal
 

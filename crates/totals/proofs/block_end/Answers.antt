@@ -1,7 +1,6 @@
 -- `block_end` meets its contract: a block that is not the last has BLOCK states.
 -- Assumes nothing.
 use native.Mathlib.Omega.{arith}
-use borrow.Author.Rules.{rules}
 use Rattle.totals.proofs.block_end.Goals as goal
 
 pub returns-then-all-start-lt-BLOCK : goal.returns-then-all-start-lt-BLOCK

@@ -6,7 +6,6 @@ use Rattle.tables.proofs.Refusing.{lent_leaves}
 use Rattle.tables.specs.Refused.{lent_number}
 use native.Mathlib.Omega.{arith}
 use mathlib.Core.Path.{sym, ◌∙◌, ap}
-use borrow.Author.Rules.{rules}
 use Rattle.writer.proofs.write.Goals as goal
 
 pub returns-then-refused-ne0 : goal.returns-then-refused-ne0

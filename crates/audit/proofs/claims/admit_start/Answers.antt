@@ -1,7 +1,6 @@
 -- `admit_start` admits a start, and passes over every other state.
 -- Assumes nothing.
 use mathlib.Core.Path.{refl, sym, ◌∙◌}
-use borrow.Author.Rules.{rules}
 use Rattle.audit.specs.Parts.{passed, admitted}
 use Rattle.audit.proofs.claims.admit_start.Goals as goal
 

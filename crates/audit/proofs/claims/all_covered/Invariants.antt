@@ -1,13 +1,7 @@
 -- `all_covered` answers yes exactly where each state passes. The loop's invariant: those below s do. The measure is what is left of n.
 -- Assumes nothing.
-use mathlib.Core.Bool.{false≢true}
-use mathlib.Core.Path.{sym, ◌∙◌}
 use Prim.Native.Nat.{◌-◌}
-use native.Mathlib.Omega.{arith}
-use borrow.Author.Count.{below_more}
-use Rattle.tables.proofs.Marking.{has-mark}
 use Rattle.audit.specs.Facts.{All, covered}
-use Rattle.audit.proofs.Looping.{stops, passes}
 use Rattle.audit.proofs.claims.all_covered.Given as goal
 
 abbrev pub invariant-loop-s : goal.invariant-loop-s

@@ -1,7 +1,6 @@
 -- `claimed` answers yes exactly where each state with the verdict is reached from a start, and leaves no state visited.
 -- Assumes nothing.
 use native.Mathlib.Omega.{arith}
-use borrow.Author.Rules.{rules}
 use Rattle.search.specs.Spreading.{chains, into}
 use Rattle.audit.proofs.Gathering.{answered}
 use Rattle.audit.proofs.claims.claimed.Goals as goal

@@ -1,7 +1,6 @@
 -- `claims_fit` asks for the live states, then for the unknown ones.
 -- Assumes nothing.
 use native.Mathlib.Omega.{arith}
-use borrow.Author.Rules.{rules}
 use Rattle.audit.proofs.Gathering.{both_answered, first_denied}
 use Rattle.audit.proofs.claims.claims_fit.Goals as goal
 

@@ -1,11 +1,8 @@
 -- `gather` queues and visits the starts. The loop's invariant: those below s are. The measure is what is left of n.
 -- Assumes nothing.
 use Prim.Native.Nat.{◌-◌, ◌≤◌}
-use native.Mathlib.Omega.{arith}
-use Rattle.tables.proofs.Marking.{has-mark}
 use Rattle.audit.specs.Parts.{Gathered}
 use Rattle.audit.specs.Facts.{starts_at}
-use Rattle.audit.proofs.Gathering.{gathered_none, gathered_room, gathered_more, gathered_last}
 use Rattle.audit.proofs.claims.gather.Given as goal
 
 abbrev pub invariant-loop-s : goal.invariant-loop-s

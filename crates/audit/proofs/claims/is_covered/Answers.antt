@@ -1,7 +1,6 @@
 -- `is_covered` computes the test `covered`.
 -- Assumes nothing.
 use borrow.Author.Tests.{eq-eqb, ne_eqb}
-use borrow.Author.Rules.{rules}
 use Rattle.audit.specs.Facts.{covered}
 use Rattle.audit.proofs.claims.is_covered.Goals as goal
 

@@ -1,7 +1,6 @@
 -- `starts` computes the test of its name.
 -- Assumes nothing.
 use borrow.Author.Tests.{eq-eqb, ne_eqb}
-use borrow.Author.Rules.{rules}
 use Rattle.audit.specs.Facts.{starts}
 use Rattle.audit.proofs.claims.starts.Goals as goal
 

@@ -1,9 +1,7 @@
 -- `clear_sources` clears the sources of the steps into v. The loop's invariant: those of the steps met are clear, and no other state's entry is marked. The measure is where the walk stands.
 -- Assumes nothing.
-use native.Mathlib.Omega.{arith}
-use borrow.Author.Rules.{rules}
 use Rattle.search.specs.Spreading.{chains}
-use Rattle.audit.proofs.Differing.{Clearing, clearing_first, clearing_source, clearing_next, clearing_ends}
+use Rattle.audit.proofs.Differing.{Clearing}
 use Rattle.audit.proofs.distinct.clear_sources.Given as goal
 
 abbrev pub invariant-loop-at : goal.invariant-loop-at

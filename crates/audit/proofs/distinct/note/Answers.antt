@@ -2,7 +2,6 @@
 -- Assumes nothing.
 use mathlib.Core.Path.{refl, sym, ◌∙◌}
 use native.Mathlib.Omega.{arith}
-use borrow.Author.Rules.{rules}
 use Rattle.audit.specs.Parts.{outside, again, new}
 use Rattle.audit.proofs.distinct.note.Goals as goal
 

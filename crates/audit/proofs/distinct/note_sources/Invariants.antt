@@ -1,9 +1,7 @@
 -- `note_sources` notes the steps into v. The loop's invariant: exactly those met are noted, and no two of them are alike. The measure is where the walk stands.
 -- Assumes nothing.
-use native.Mathlib.Omega.{arith}
-use borrow.Author.Rules.{rules}
 use Rattle.search.specs.Spreading.{chains}
-use Rattle.audit.proofs.Differing.{Noting, noting_first, noting_source, noting_next, noting_stops, noting_ends}
+use Rattle.audit.proofs.Differing.{Noting}
 use Rattle.audit.proofs.distinct.note_sources.Given as goal
 
 abbrev pub invariant-loop-at : goal.invariant-loop-at

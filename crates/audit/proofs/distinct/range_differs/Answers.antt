@@ -1,10 +1,7 @@
 -- `range_differs` takes one state after the other. The loop's invariant: the steps into those below v differ, and nothing is left noted. The measure is what is left of n.
 -- Assumes nothing.
-use Prim.Native.Nat.{◌-◌}
 use native.Mathlib.Omega.{arith}
-use Rattle.search.specs.Spreading.{chains, into}
-use Rattle.audit.specs.Parts.{Apart}
-use Rattle.audit.proofs.Differing.{Comparing, comparing_first, comparing_next, comparing_stops, comparing_ends}
+use Rattle.audit.proofs.Differing.{comparing_first, comparing_next, comparing_stops, comparing_ends}
 use Rattle.audit.proofs.distinct.range_differs.Goals as goal
 
 pub loop-v-init : goal.loop-v-init

@@ -1,7 +1,6 @@
 -- `sources_differ` notes the steps into v, and clears what it noted.
 -- Assumes nothing.
 use native.Mathlib.Omega.{arith}
-use borrow.Author.Rules.{rules}
 use Rattle.audit.proofs.Differing.{sources_differ, sources_alike}
 use Rattle.audit.proofs.distinct.sources_differ.Goals as goal
 

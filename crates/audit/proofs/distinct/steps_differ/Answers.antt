@@ -1,7 +1,6 @@
 -- `steps_differ` takes the low keys, then the high ones.
 -- Assumes nothing.
 use native.Mathlib.Omega.{arith}
-use borrow.Author.Rules.{rules}
 use Rattle.tables.proofs.Keeping.{filled_at}
 use Rattle.audit.proofs.Differing.{both_differ, low_alike}
 use Rattle.audit.proofs.distinct.steps_differ.Goals as goal

@@ -2,12 +2,9 @@
 -- Assumes nothing.
 use mathlib.Core.Bool.{false≢true}
 use mathlib.Core.Path.{sym, ◌∙◌}
-use mathlib.Core.List.{List}
-use Prim.Native.Nat.{ℕ}
 use native.Mathlib.Omega.{arith}
-use borrow.Author.Rules.{rules}
 use Rattle.tables.proofs.Keeping.{kept_none, kept_trans}
-use Rattle.tables.specs.Tables.{Tables, tables_of}
+use Rattle.tables.specs.Tables.{tables_of}
 use Rattle.audit.proofs.Judging.{none_visited, ends_below, alike, denied, judged}
 use Rattle.audit.proofs.judge.judge.Goals as goal
 

@@ -1,10 +1,7 @@
 -- `heads_fit` answers yes exactly where the two tables agree below n. The loop's invariant: they do below v. The measure is what is left of n.
 -- Assumes nothing.
 use Prim.Native.Nat.{◌-◌}
-use native.Mathlib.Omega.{arith}
-use borrow.Author.Count.{below_more}
 use Rattle.audit.specs.Parts.{Same}
-use Rattle.audit.proofs.Looping.{stops, passes}
 use Rattle.audit.proofs.lists.heads_fit.Given as goal
 
 abbrev pub invariant-loop-v : goal.invariant-loop-v

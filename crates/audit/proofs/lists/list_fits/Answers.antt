@@ -1,7 +1,6 @@
 -- `list_fits` answers yes exactly where the list rule holds: next entries, then heads.
 -- Assumes nothing.
 use native.Mathlib.Omega.{arith}
-use borrow.Author.Rules.{rules}
 use Rattle.tables.proofs.Keeping.{filled_at}
 use Rattle.audit.proofs.Chaining.{list_stops, list_ends}
 use Rattle.audit.proofs.lists.list_fits.Goals as goal

@@ -1,7 +1,6 @@
 -- `next_fits` compares a next entry with the last step met, and notes the step.
 -- Assumes nothing.
 use mathlib.Core.Path.{refl}
-use borrow.Author.Rules.{rules}
 use Rattle.audit.specs.Parts.{differs, follows}
 use Rattle.audit.proofs.lists.next_fits.Goals as goal
 

@@ -1,9 +1,7 @@
 -- `nexts_fit` answers yes exactly where each next entry is right. The loop's invariant: those below p are, and the table holds the last step met at each state. The measure is the number of steps left.
 -- Assumes nothing.
-use Prim.Native.Nat.{◌-◌}
 use native.Mathlib.Omega.{arith}
-use borrow.Author.Rules.{rules}
-use Rattle.audit.proofs.Chaining.{Chaining, chaining_first, chaining_next, chaining_stops, chaining_ends}
+use Rattle.audit.proofs.Chaining.{chaining_first, chaining_next, chaining_stops, chaining_ends}
 use Rattle.audit.proofs.lists.nexts_fit.Goals as goal
 
 pub loop-p-init : goal.loop-p-init

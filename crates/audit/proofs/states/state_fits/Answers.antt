@@ -1,7 +1,6 @@
 -- `state_fits` computes the test of a state's entries, part by part.
 -- Assumes nothing.
 use mathlib.Core.Path.{sym, ◌∙◌}
-use borrow.Author.Rules.{rules}
 use Rattle.audit.specs.Facts.{state_fits}
 use Rattle.audit.proofs.states.state_fits.Goals as goal
 

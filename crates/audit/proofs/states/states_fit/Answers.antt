@@ -2,11 +2,9 @@
 -- Assumes nothing.
 use mathlib.Core.Bool.{false≢true}
 use mathlib.Core.Path.{sym, ◌∙◌}
-use Prim.Native.Nat.{◌-◌}
 use native.Mathlib.Omega.{arith}
 use borrow.Author.Count.{below_more}
 use Rattle.tables.proofs.Marking.{has-mark}
-use Rattle.audit.specs.Facts.{All, state_fits}
 use Rattle.audit.proofs.Looping.{stops, passes}
 use Rattle.audit.proofs.states.states_fit.Goals as goal
 

@@ -1,7 +1,6 @@
 -- `successor_fits` computes the test of its name.
 -- Assumes nothing.
 use borrow.Author.Tests.{eq-eqb, ne_eqb, lt-ltb, le-ltb}
-use borrow.Author.Rules.{rules}
 use Rattle.audit.specs.Facts.{successor_fits}
 use Rattle.audit.proofs.states.successor_fits.Goals as goal
 

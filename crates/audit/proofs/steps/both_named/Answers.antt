@@ -1,7 +1,6 @@
 -- `both_named` computes the test of its name.
 -- Assumes nothing.
 use mathlib.Core.Path.{sym, ◌∙◌}
-use borrow.Author.Rules.{rules}
 use Rattle.audit.specs.Facts.{both_named}
 use Rattle.audit.proofs.steps.both_named.Goals as goal
 

@@ -2,12 +2,8 @@
 -- Assumes nothing.
 use mathlib.Core.Bool.{false≢true}
 use mathlib.Core.Path.{sym, ◌∙◌}
-use Prim.Native.Nat.{◌-◌}
 use native.Mathlib.Omega.{arith}
-use lib.ListN.{get_or}
-use borrow.Author.Rules.{rules}
 use borrow.Author.Count.{below_more}
-use Rattle.audit.specs.Facts.{All, step_fits}
 use Rattle.audit.proofs.Looping.{stops, passes}
 use Rattle.audit.proofs.steps.steps_fit.Goals as goal
 

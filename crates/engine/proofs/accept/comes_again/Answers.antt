@@ -2,7 +2,6 @@
 -- Assumes nothing.
 use mathlib.Core.Path.{◌∙◌, ap}
 use lib.ListN.{length}
-use borrow.Author.Rules.{rules}
 use Rattle.gid.specs.declared.Update.{Update}
 use Rattle.tables.specs.Marks.{closes_again}
 use Rattle.tables.specs.Refused.{is_again}

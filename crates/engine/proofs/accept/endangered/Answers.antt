@@ -1,7 +1,6 @@
 -- `endangered` hands a close to `unless_live`. No other update puts a state in danger.
 -- Assumes nothing.
 use lib.ListN.{length}
-use borrow.Author.Rules.{rules}
 use Rattle.gid.specs.Refusals.{max_states}
 use Rattle.engine.specs.Judging.{endangered}
 use Rattle.engine.proofs.Acting.{in_range_as}

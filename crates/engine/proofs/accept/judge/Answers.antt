@@ -1,16 +1,16 @@
 -- `judge` spreads life, finds a way out near by, searches for the dead, or does nothing: its four ways are those of `Judged`. A state that an answer names is one of the update's, so it is below n.
 -- Assumes nothing.
-use mathlib.Core.Path.{◌≡◌, refl, ◌∙◌}
-use Prim.Native.Nat.{ℕ, ◌-◌, ◌+◌, ◌<◌}
+use mathlib.Core.Path.{refl}
+use Prim.Native.Nat.{◌-◌}
 use native.Mathlib.Omega.{arith}
 use lib.ListN.{length, set, length-set}
 use Rattle.gid.specs.Refusals.{max_states}
 use Rattle.tables.proofs.Marking.{has-mark}
 use Rattle.search.specs.Spreading.{chains, out_of}
-use Rattle.search.specs.Escaping.{toward, Near}
+use Rattle.search.specs.Escaping.{toward}
 use Rattle.search.proofs.Spreading.{begun_queued}
 use Rattle.search.proofs.Walking.{linked_inside}
-use Rattle.engine.specs.Judging.{quickened, endangered, quiet, revived, nears, swept}
+use Rattle.engine.specs.Judging.{quiet, revived, nears, swept}
 use Rattle.engine.proofs.Acting.{in_range_wider, quickened_state, endangered_state, escape_found}
 use Rattle.engine.proofs.accept.judge.Goals as goal
 
@@ -54,9 +54,13 @@ overflow_sub-successor c = omega (arith, c.if-p-gt0.true)
 pub overflow_cast-successor : goal.overflow_cast-successor
 overflow_cast-successor c =
     let a = c.args in
-    omega (arith, linked_inside a.out_head.now a.out_next.now a.steps (c.endangered-closed.result - 1) (let a = c.args in
-    let u = c.endangered-closed.result - 1 in
-    escape_found a.n (out_of (chains a.n a.steps a.to.now a.out_head.now a.out_next.now)) (toward a.steps a.to.now) (set a.status.now u 2) a.successor.now u c.near_escape-p.ensures c.if-p-gt0.true).1.0, c.requires.walkable.1.few)
+    omega (
+      arith,
+      linked_inside a.out_head.now a.out_next.now a.steps (c.endangered-closed.result - 1) (let a = c.args in
+          let u = c.endangered-closed.result - 1 in
+          escape_found a.n (out_of (chains a.n a.steps a.to.now a.out_head.now a.out_next.now)) (toward a.steps a.to.now) (set a.status.now u 2) a.successor.now u c.near_escape-p.ensures c.if-p-gt0.true).1.0,
+      c.requires.walkable.1.few,
+    )
 
 pub offset_bounds-successor-u : goal.offset_bounds-successor-u
 offset_bounds-successor-u c = omega (arith, (endangered_state c.args.n c.args.update c.args.status.now c.requires.in_range.0 c.endangered-closed.ensures c.if-closed-eq0.false).1, c.requires.in_range.1)
@@ -80,8 +84,16 @@ begin-starts-requires-2 c =
 pub sweep-requires : goal.sweep-requires
 sweep-requires c =
     let g = c.requires.n_in_bounds in
-    record { n_le_max_states = (c.requires.in_range.1, begun_queued c.begin-starts-2.ensures c.args.n (let c = c in
-    endangered_state c.args.n c.args.update c.args.status.now c.requires.in_range.0 c.endangered-closed.ensures c.if-closed-eq0.false).1 g.4 g.3); walkable = c.requires.walkable.0; walkable_2 = c.requires.walkable.1; n_in_bounds = (rw length-set g.0, g.1, g.2, rw c.begin-starts-2.auto.queue g.3, rw c.begin-starts-2.auto.visited g.4) }
+    record {
+      n_le_max_states = (
+        c.requires.in_range.1,
+        begun_queued c.begin-starts-2.ensures c.args.n (let c = c in
+            endangered_state c.args.n c.args.update c.args.status.now c.requires.in_range.0 c.endangered-closed.ensures c.if-closed-eq0.false).1 g.4 g.3,
+      );
+      walkable = c.requires.walkable.0;
+      walkable_2 = c.requires.walkable.1;
+      n_in_bounds = (rw length-set g.0, g.1, g.2, rw c.begin-starts-2.auto.queue g.3, rw c.begin-starts-2.auto.visited g.4);
+    }
 
 pub returns : goal.returns
 returns c = swept (c.endangered-closed.result - 1) (endangered_state c.args.n c.args.update c.args.status.now c.requires.in_range.0 c.endangered-closed.ensures c.if-closed-eq0.false).0 c.begin-starts-2.result c.begin-starts-2.new.visited c.begin-starts-2.new.queue c.begin-starts-2.ensures c.sweep.ensures

@@ -1,8 +1,7 @@
 -- `list` puts a step into the list and in front of its two chains. Any other update adds nothing.
 -- Assumes nothing.
 use native.Mathlib.Omega.{arith}
-use lib.ListN.{length, length-set}
-use borrow.Author.Rules.{rules}
+use lib.ListN.{length}
 use Rattle.engine.proofs.Acting.{in_range_as, key_below_as, free_as, listed_none, listed_one}
 use Rattle.engine.proofs.accept.list.Goals as goal
 

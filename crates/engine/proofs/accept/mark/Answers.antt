@@ -2,7 +2,6 @@
 -- Assumes nothing.
 use native.Mathlib.Omega.{arith}
 use lib.ListN.{length}
-use borrow.Author.Rules.{rules}
 use Rattle.tables.specs.Marks.{with_terminal, with_closed}
 use Rattle.engine.proofs.Acting.{in_range_as, marks_both, names_both, marks_then}
 use Rattle.engine.proofs.accept.mark.Goals as goal

@@ -2,7 +2,6 @@
 -- Assumes nothing.
 use native.Mathlib.Omega.{arith}
 use lib.ListN.{length}
-use borrow.Author.Rules.{rules}
 use Rattle.engine.specs.Preparing.{status_again, marks_again}
 use Rattle.engine.proofs.Acting.{in_range_as, marks_both, names_both, names_none}
 use Rattle.engine.proofs.accept.name_again.Goals as goal

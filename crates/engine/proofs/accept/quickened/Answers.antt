@@ -1,7 +1,6 @@
 -- `quickened` hands each update to its test: a step to `quickened_by`, a terminal mark to `unless_live`. From a close no life spreads.
 -- Assumes nothing.
 use lib.ListN.{length}
-use borrow.Author.Rules.{rules}
 use Rattle.gid.specs.Refusals.{max_states}
 use Rattle.engine.specs.Judging.{quickened}
 use Rattle.engine.proofs.Acting.{in_range_as}

@@ -1,6 +1,5 @@
 -- `quickened_by` tests the target, and then the source: the same two tests as the definition's.
 -- Assumes nothing.
-use borrow.Author.Rules.{rules}
 use borrow.Author.Tests.{eq-eqb, ne_eqb}
 use Rattle.engine.specs.Judging.{quickened}
 use Rattle.engine.proofs.accept.quickened_by.Goals as goal

@@ -1,6 +1,5 @@
 -- `unless_live` answers by the one test of its definition.
 -- Assumes nothing.
-use borrow.Author.Rules.{rules}
 use borrow.Author.Tests.{eq-eqb, ne_eqb}
 use Rattle.engine.proofs.accept.unless_live.Goals as goal
 

@@ -1,10 +1,8 @@
 -- `enumerate` meets its contract.
 -- Assumes nothing.
-use mathlib.Core.Path.{refl, ◌∙◌}
+use mathlib.Core.Path.{refl}
 use native.Mathlib.Omega.{arith}
-use lib.ListN.{length-set}
 use Rattle.enumeration.proofs.Progress.{count_room, enumeration_placed}
-use borrow.Author.Rules.{rules}
 use Rattle.enumeration.proofs.lines.enumerate.Goals as goal
 
 pub returns-then-output-lt-ROOM : goal.returns-then-output-lt-ROOM

@@ -2,7 +2,6 @@
 -- Assumes nothing.
 use mathlib.Core.Path.{refl, sym, ◌∙◌}
 use Rattle.enumeration.specs.Parts.{legal, passed}
-use borrow.Author.Rules.{rules}
 use Rattle.enumeration.proofs.lines.enumerate_rank.Goals as goal
 
 pub put_history-requires : goal.put_history-requires

@@ -1,11 +1,8 @@
 -- `enumerate_ranks` meets its contract.
 -- Assumes nothing.
 use mathlib.Core.Path.{◌≡◌, refl, ◌∙◌}
-use Prim.Native.Nat.{◌-◌, ◌≤◌}
 use native.Mathlib.Omega.{arith}
-use lib.ListN.{length}
 use Rattle.enumeration.specs.Ranking.{rank_count}
-use Rattle.enumeration.specs.Parts.{EnumeratesBelow}
 use Rattle.enumeration.proofs.Progress.{ranks_few, lists_none, lists_more}
 use Rattle.enumeration.proofs.lines.enumerate_ranks.Goals as goal
 

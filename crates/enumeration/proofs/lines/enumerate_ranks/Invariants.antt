@@ -1,12 +1,10 @@
 -- `enumerate_ranks` meets its contract.
 -- Assumes nothing.
-use mathlib.Core.Path.{◌≡◌, refl, ◌∙◌}
+use mathlib.Core.Path.{◌≡◌}
 use Prim.Native.Nat.{◌-◌, ◌≤◌}
-use native.Mathlib.Omega.{arith}
 use lib.ListN.{length}
 use Rattle.enumeration.specs.Ranking.{rank_count}
 use Rattle.enumeration.specs.Parts.{EnumeratesBelow}
-use Rattle.enumeration.proofs.Progress.{ranks_few, lists_none, lists_more}
 use Rattle.enumeration.proofs.lines.enumerate_ranks.Given as goal
 
 abbrev pub invariant-loop-rank : goal.invariant-loop-rank

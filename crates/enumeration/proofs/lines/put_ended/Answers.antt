@@ -8,7 +8,6 @@ use Rattle.record.specs.declared.line.Form.TheVariants.{Keyed}
 use Rattle.record.specs.Text.{text}
 use Rattle.record.proofs.Writing.{lent_back}
 use Rattle.enumeration.proofs.Texts.{placed_last}
-use borrow.Author.Rules.{rules}
 use Rattle.enumeration.proofs.lines.put_ended.Goals as goal
 
 pub overflow_add-end : goal.overflow_add-end

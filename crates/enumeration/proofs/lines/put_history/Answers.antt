@@ -8,7 +8,6 @@ use Rattle.enumeration.specs.Lines.{comma_separated}
 use Rattle.enumeration.proofs.Listing.{small_ranked}
 use Rattle.enumeration.proofs.Accepting.{statuses_right}
 use Rattle.enumeration.proofs.Texts.{separated_few, status_few, line_placed}
-use borrow.Author.Rules.{rules}
 use Rattle.enumeration.proofs.lines.put_history.Goals as goal
 
 pub overflow_add-digits : goal.overflow_add-digits

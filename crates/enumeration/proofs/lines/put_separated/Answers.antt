@@ -4,7 +4,6 @@ use native.Mathlib.Omega.{arith}
 use mathlib.Core.List.{[]}
 use Rattle.record.proofs.Placing.{placed_none, placed_byte}
 use Rattle.enumeration.proofs.Texts.{separated_none, separated_room, separated_placed}
-use borrow.Author.Rules.{rules}
 use Rattle.enumeration.proofs.lines.put_separated.Goals as goal
 
 pub returns-then-rank-eq0 : goal.returns-then-rank-eq0

@@ -1,6 +1,5 @@
 -- `closes` meets its contract.
 -- Assumes nothing.
-use borrow.Author.Rules.{rules}
 use Rattle.enumeration.proofs.ranks.closes.Goals as goal
 
 pub returns-in-Close : goal.returns-in-Close

@@ -1,6 +1,5 @@
 -- `may_follow` meets its contract.
 -- Assumes nothing.
-use borrow.Author.Rules.{rules}
 use Rattle.enumeration.proofs.ranks.may_follow.Goals as goal
 
 pub returns-in-Step : goal.returns-in-Step

@@ -1,7 +1,6 @@
 -- `statuses_after` meets its contract.
 -- Assumes nothing.
 use Rattle.enumeration.proofs.Accepting.{sent_statuses}
-use borrow.Author.Rules.{rules}
 use Rattle.enumeration.proofs.sending.statuses_after.Goals as goal
 
 pub returns : goal.returns

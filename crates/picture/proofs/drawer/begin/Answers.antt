@@ -1,6 +1,5 @@
 -- `begin` opens the tables.
 -- Assumes nothing.
-use borrow.Author.Rules.{rules}
 use Rattle.picture.proofs.drawer.begin.Goals as goal
 
 pub returns : goal.returns

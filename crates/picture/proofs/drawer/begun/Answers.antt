@@ -1,7 +1,6 @@
 -- `begun` meets its contract.
 -- Assumes nothing.
 use Rattle.picture.proofs.Tasks.{begins_refused, begins_ready}
-use borrow.Author.Rules.{rules}
 use Rattle.picture.proofs.drawer.begun.Goals as goal
 
 pub returns-in-Refused : goal.returns-in-Refused

@@ -5,7 +5,6 @@ use native.Mathlib.Omega.{arith}
 use lib.ListN.{length}
 use Rattle.picture.specs.Drawer.{closes}
 use Rattle.picture.proofs.Tasks.{drawn_within, drawn_few}
-use borrow.Author.Rules.{rules}
 use Rattle.picture.proofs.drawer.close.Goals as goal
 
 pub put_picture-end-requires : goal.put_picture-end-requires

@@ -6,7 +6,6 @@ use lib.Seq.{length-take-le}
 use Rattle.record.proofs.Splitting.{last_short, last_part}
 use Rattle.picture.specs.Drawer.{short}
 use Rattle.picture.proofs.Tasks.{draws_by}
-use borrow.Author.Rules.{rules}
 use Rattle.picture.proofs.drawer.draw.Goals as goal
 
 pub returns-then-output-lt-PICTURE_ROOM : goal.returns-then-output-lt-PICTURE_ROOM

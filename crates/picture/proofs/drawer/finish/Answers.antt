@@ -3,7 +3,6 @@
 use mathlib.Core.Path.{refl, sym, ◌∙◌}
 use native.Mathlib.Omega.{arith}
 use Rattle.picture.specs.Drawer.{continues, stops, ends}
-use borrow.Author.Rules.{rules}
 use Rattle.picture.proofs.drawer.finish.Goals as goal
 
 pub returns-then-is_over : goal.returns-then-is_over

@@ -1,7 +1,6 @@
 -- `is_terminal` meets its contract.
 -- Assumes nothing.
 use lib.ListN.{get_or-eq_default}
-use borrow.Author.Rules.{rules}
 use Rattle.picture.proofs.text.is_terminal.Goals as goal
 
 pub returns : goal.returns

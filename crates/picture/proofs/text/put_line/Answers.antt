@@ -1,7 +1,6 @@
 -- `put_line` meets its contract.
 -- Assumes nothing.
 use native.Mathlib.Omega.{arith}
-use borrow.Author.Rules.{rules}
 use Rattle.record.proofs.Decimals.{five_digits}
 use Rattle.picture.proofs.Drawing.{line_placed}
 use Rattle.picture.proofs.text.put_line.Goals as goal

@@ -1,7 +1,6 @@
 -- `put_node` meets its contract.
 -- Assumes nothing.
 use native.Mathlib.Omega.{arith}
-use borrow.Author.Rules.{rules}
 use Rattle.record.proofs.Placing.{placed_on}
 use Rattle.picture.proofs.text.put_node.Goals as goal
 

@@ -2,7 +2,6 @@
 -- Assumes nothing.
 use native.Mathlib.Omega.{arith}
 use lib.ListN.{get_or}
-use borrow.Author.Rules.{rules}
 use Rattle.tables.specs.Marks.{has_terminal}
 use Rattle.picture.proofs.Drawing.{drawn}
 use Rattle.picture.proofs.text.put_picture.Goals as goal
@@ -18,8 +17,7 @@ put_bytes_at-requires c = omega (arith, c.requires.0, c.requires.1, c.requires.5
 
 pub returns : goal.returns
 returns c =
-    let a = c.args in
-    (
+    let a = c.args in (
       drawn a.n a.m (λ s. get_or a.status.now s 0) (λ s. has_terminal (get_or a.marks.now s 0)) (λ i. get_or a.from.now i 0) (λ i. get_or a.to.now i 0) (λ i. get_or a.key.now i 0) (λ s. get_or a.successor.now s 65535) c.put_bytes_at-states.ensures c.put_states-steps.ensures.0 c.put_steps-end.ensures.0 c.put_bytes_at.ensures (omega (arith, c.requires.0, c.requires.1, c.requires.5, c.put_bytes_at-states.ensures.after, c.put_states-steps.ensures.1, c.put_steps-end.ensures.1, c.put_bytes_at.ensures.after)),
       omega (arith, c.requires.0, c.requires.1, c.put_bytes_at-states.ensures.after, c.put_states-steps.ensures.1, c.put_steps-end.ensures.1, c.put_bytes_at.ensures.after),
     )

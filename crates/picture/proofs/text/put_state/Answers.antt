@@ -3,7 +3,6 @@
 use native.Mathlib.Omega.{arith}
 use borrow.Author.Tests.{ne_eqb}
 use Rattle.record.proofs.Placing.{placed_none}
-use borrow.Author.Rules.{rules}
 use Rattle.picture.proofs.text.put_state.Goals as goal
 
 pub returns-in-1 : goal.returns-in-1

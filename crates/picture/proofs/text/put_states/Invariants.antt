@@ -1,13 +1,11 @@
 -- `put_states` meets its contract. The invariant: the lines of the states passed stand in the buffer, and take at most 69 bytes each.
 -- Assumes nothing.
 use Prim.Native.Nat.{◌+◌, ◌*◌, ◌-◌, ◌≤◌}
-use native.Mathlib.Omega.{arith}
-use mathlib.Core.Path.{◌≡◌, refl, ◌∙◌}
+use mathlib.Core.Path.{◌≡◌}
 use lib.ListN.{length, get_or}
 use Rattle.tables.specs.Marks.{has_terminal}
 use Rattle.record.specs.Text.{WroteAt}
 use Rattle.picture.specs.Picture.{states_text}
-use Rattle.picture.proofs.Drawing.{no_states, states_on}
 use Rattle.picture.proofs.text.put_states.Given as goal
 
 abbrev pub invariant-loop-s : goal.invariant-loop-s

@@ -1,12 +1,8 @@
 -- `put_steps` meets its contract. The invariant: the lines of the steps passed stand in the buffer, and take at most 46 bytes each.
 -- Assumes nothing.
-use Prim.Native.Nat.{◌+◌, ◌*◌, ◌-◌, ◌≤◌}
 use native.Mathlib.Omega.{arith}
 use mathlib.Core.Path.{◌≡◌, refl, ◌∙◌}
-use borrow.Author.Rules.{rules}
-use lib.ListN.{length, get_or}
-use Rattle.record.specs.Text.{WroteAt}
-use Rattle.picture.specs.Picture.{steps_text}
+use lib.ListN.{get_or}
 use Rattle.picture.proofs.Drawing.{no_steps, steps_on}
 use Rattle.picture.proofs.text.put_steps.Goals as goal
 

@@ -2,7 +2,6 @@
 -- Assumes nothing.
 use lib.ListN.{get_or-eq_default}
 use mathlib.Core.Path.{sym}
-use borrow.Author.Rules.{rules}
 use Rattle.picture.proofs.Drawing.{read_same}
 use Rattle.picture.proofs.text.successor_of.Goals as goal
 

@@ -1,12 +1,9 @@
 -- `advance` reads line after line. The invariant: the lines passed are the next of the record, and none is waited for. The measure is what is left of the part.
 -- Assumes nothing.
-use mathlib.Core.Path.{◌≡◌, sym, ◌∙◌}
-use Prim.Native.Nat.{◌-◌}
+use mathlib.Core.Path.{sym, ◌∙◌}
 use native.Mathlib.Omega.{arith}
-use lib.ListN.{length}
-use Rattle.tables.specs.Tables.{tables_of}
 use Rattle.record.proofs.Splitting.{part_next}
-use Rattle.reader.proofs.Going.{Going, going_none, going_line, going_found, going_ended}
+use Rattle.reader.proofs.Going.{going_none, going_line, going_found, going_ended}
 use Rattle.reader.proofs.Reader.advance.Goals as goal
 
 pub loop-next-init : goal.loop-next-init

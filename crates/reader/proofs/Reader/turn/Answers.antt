@@ -3,7 +3,6 @@
 use mathlib.Core.Path.{ap}
 use Rattle.record.specs.declared.splitter.Advanced.{Advanced}
 use Rattle.reader.proofs.Following.{came_as, came_other, came_sent}
-use borrow.Author.Rules.{rules}
 use Rattle.reader.proofs.Reader.turn.Goals as goal
 
 pub returns-in-Update : goal.returns-in-Update

@@ -1,4 +1,3 @@
-use borrow.Author.Rules.{rules}
 use Rattle.reader.proofs.driver.has_news.Goals as goal
 
 pub returns-in-Accepted : goal.returns-in-Accepted

@@ -1,6 +1,5 @@
 -- `item_answer` meets its contract.
 -- Assumes nothing.
-use borrow.Author.Rules.{rules}
 use Rattle.reader.proofs.driver.item_answer.Goals as goal
 
 pub returns-in-Malformed : goal.returns-in-Malformed

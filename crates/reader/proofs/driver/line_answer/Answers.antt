@@ -1,6 +1,5 @@
 -- `line_answer` meets its contract.
 -- Assumes nothing.
-use borrow.Author.Rules.{rules}
 use Rattle.reader.proofs.driver.line_answer.Goals as goal
 
 pub returns-in-Accepted : goal.returns-in-Accepted

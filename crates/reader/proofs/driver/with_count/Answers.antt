@@ -1,7 +1,6 @@
 -- `with_count` meets its contract.
 -- Assumes nothing.
 use Rattle.reader.proofs.Following.{uncounted}
-use borrow.Author.Rules.{rules}
 use Rattle.reader.proofs.driver.with_count.Goals as goal
 
 pub returns-in-States : goal.returns-in-States

@@ -1,12 +1,10 @@
 -- `open` tests the lengths and makes the tables fresh.
 -- Assumes nothing.
-use mathlib.Core.Path.{◌≡◌, sym, ◌∙◌}
-use borrow.Author.Rules.{rules}
-use Rattle.tables.specs.Tables.{Tables, tables_of}
-use Rattle.engine.specs.Done.{Room}
+use mathlib.Core.Path.{sym, ◌∙◌}
+use Rattle.tables.specs.Tables.{tables_of}
 use Rattle.engine.proofs.Promising.{room_of}
-use Rattle.reader.specs.Opening.{reader_states, reader_graph}
-use Rattle.reader.proofs.Opening.{open_number, opens_refused, opens_ready, freshened_by}
+use Rattle.reader.specs.Opening.{reader_graph}
+use Rattle.reader.proofs.Opening.{opens_refused, opens_ready, freshened_by}
 use Rattle.reader.proofs.start.open.Goals as goal
 
 pub returns-then-refused-ne0 : goal.returns-then-refused-ne0

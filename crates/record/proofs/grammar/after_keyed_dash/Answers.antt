@@ -2,7 +2,6 @@
 -- Assumes nothing.
 use Rattle.record.proofs.Indexed.{a_rest, no_rest, behind_end, behind_same, behind_other}
 use Rattle.record.specs.Grammar.{no_key}
-use borrow.Author.Rules.{rules}
 use Rattle.std.proofs.Common.{arith}
 use Rattle.record.proofs.grammar.after_keyed_dash.Goals as goal
 

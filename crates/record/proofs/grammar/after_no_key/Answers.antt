@@ -1,7 +1,6 @@
 -- `after_no_key` meets its contract.
 -- Assumes nothing.
 use Rattle.record.specs.Grammar.{no_key}
-use borrow.Author.Rules.{rules}
 use Rattle.record.proofs.grammar.after_no_key.Goals as goal
 
 pub returns-in-Plain : goal.returns-in-Plain

@@ -2,7 +2,6 @@
 -- Assumes nothing.
 use Rattle.record.proofs.Indexed.{behind_end, behind_same, behind_other}
 use mathlib.Core.Path.{sym}
-use borrow.Author.Rules.{rules}
 use Rattle.std.proofs.Common.{arith}
 use Rattle.record.proofs.grammar.after_space.Goals as goal
 

@@ -5,7 +5,6 @@ use Rattle.record.specs.Grammar.{count_of}
 use native.Mathlib.Omega.{arith}
 use lib.ListN.{length, drop, length-drop}
 use borrow.Author.Tests.{le-leb, lt-leb}
-use borrow.Author.Rules.{rules}
 use Rattle.record.proofs.grammar.count_bytes.Goals as goal
 
 pub returns-in_default : goal.returns-in_default

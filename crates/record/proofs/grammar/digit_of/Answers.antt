@@ -2,7 +2,6 @@
 -- Assumes nothing.
 use Rattle.record.proofs.Indexed.{is-digit, below_digits, above_digits}
 use native.Mathlib.Omega.{arith}
-use borrow.Author.Rules.{rules}
 use Rattle.record.proofs.grammar.digit_of.Goals as goal
 
 pub returns-in-48-to-57 : goal.returns-in-48-to-57

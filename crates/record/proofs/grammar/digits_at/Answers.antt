@@ -1,12 +1,9 @@
 -- `digits_at` meets its contract.
 -- Assumes nothing.
 use Rattle.record.proofs.Indexed.{digit_found, no_digit_found, digits_other, digits_above, digits_more, digits_end}
-use Rattle.record.specs.Grammar.{digits}
-use lib.ListN.{length, get_or, drop}
-use borrow.Author.Rules.{rules}
+use lib.ListN.{get_or}
 use native.Mathlib.Omega.{arith}
-use Prim.Native.Nat.{◌≤◌, ◌-◌}
-use mathlib.Core.Path.{◌≡◌, refl, sym, ◌∙◌}
+use mathlib.Core.Path.{refl, sym, ◌∙◌}
 use Rattle.record.proofs.grammar.digits_at.Goals as goal
 
 pub loop-i-init : goal.loop-i-init

@@ -1,12 +1,9 @@
 -- `digits_at` meets its contract.
 -- Assumes nothing.
-use Rattle.record.proofs.Indexed.{digit_found, no_digit_found, digits_other, digits_above, digits_more, digits_end}
 use Rattle.record.specs.Grammar.{digits}
-use lib.ListN.{length, get_or, drop}
-use borrow.Author.Rules.{rules}
-use native.Mathlib.Omega.{arith}
+use lib.ListN.{length, drop}
 use Prim.Native.Nat.{◌≤◌, ◌-◌}
-use mathlib.Core.Path.{◌≡◌, refl, sym, ◌∙◌}
+use mathlib.Core.Path.{◌≡◌}
 use Rattle.record.proofs.grammar.digits_at.Given as goal
 
 abbrev pub invariant-loop-i : goal.invariant-loop-i

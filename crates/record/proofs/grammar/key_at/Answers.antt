@@ -1,7 +1,6 @@
 -- `key_at` meets its contract.
 -- Assumes nothing.
 use Rattle.record.specs.Grammar.{key_of}
-use borrow.Author.Rules.{rules}
 use Rattle.record.proofs.grammar.key_at.Goals as goal
 
 pub returns-in-Plain : goal.returns-in-Plain

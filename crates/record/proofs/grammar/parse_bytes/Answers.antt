@@ -4,7 +4,6 @@ use Rattle.record.proofs.Indexed.{a_value, no_value, a_rest, no_rest, no_line, f
 use Rattle.record.specs.Grammar.{update}
 use borrow.Author.Tests.{ne_eqb}
 use lib.ListN.{get_or}
-use borrow.Author.Rules.{rules}
 use Rattle.std.proofs.Common.{arith}
 use Rattle.record.proofs.grammar.parse_bytes.Goals as goal
 

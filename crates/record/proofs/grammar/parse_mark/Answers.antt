@@ -1,7 +1,6 @@
 -- `parse_mark` meets its contract.
 -- Assumes nothing.
 use Rattle.record.proofs.Indexed.{a_rest, no_rest, mark_end, mark_dash, mark_other, whole_end, whole_more}
-use borrow.Author.Rules.{rules}
 use Rattle.std.proofs.Common.{arith}
 use Rattle.record.proofs.grammar.parse_mark.Goals as goal
 

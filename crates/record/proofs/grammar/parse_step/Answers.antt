@@ -4,7 +4,6 @@ use Rattle.record.proofs.Indexed.{a_value, no_value, whole_more, whole_end}
 use Rattle.record.specs.Grammar.{step}
 use Rattle.gid.specs.declared.Update.TheVariants.{Step}
 use Rattle.gid.specs.Updates.{edge}
-use borrow.Author.Rules.{rules}
 use Rattle.record.proofs.grammar.parse_step.Goals as goal
 
 pub returns-in_default : goal.returns-in_default

@@ -2,7 +2,6 @@
 -- Assumes nothing.
 use Rattle.record.proofs.Indexed.{a_rest, no_rest}
 use Rattle.record.specs.Grammar.{key_of}
-use borrow.Author.Rules.{rules}
 use Rattle.record.proofs.grammar.spaced_value_at.Goals as goal
 
 pub returns-in_default : goal.returns-in_default

@@ -4,7 +4,6 @@ use Rattle.record.proofs.Indexed.{value_end, value_zero, value_digits, value_oth
 use native.Mathlib.Omega.{arith}
 use lib.ListN.{get_or}
 use mathlib.Core.Path.{sym, ◌∙◌}
-use borrow.Author.Rules.{rules}
 use Rattle.record.proofs.grammar.value_at.Goals as goal
 
 pub returns-then-s-at : goal.returns-then-s-at

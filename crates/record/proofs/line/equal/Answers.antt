@@ -1,11 +1,8 @@
 -- `equal` meets its contract.
 -- Assumes nothing.
 use Rattle.record.proofs.Sameness.{other_length, same_end, same_more, same_other}
-use Rattle.record.specs.Items.{same}
-use lib.ListN.{length, drop}
 use native.Mathlib.Omega.{arith}
-use Prim.Native.Nat.{◌≤◌, ◌-◌}
-use mathlib.Core.Path.{◌≡◌, refl, sym, ◌∙◌}
+use mathlib.Core.Path.{refl, sym, ◌∙◌}
 use Rattle.record.proofs.line.equal.Goals as goal
 
 pub returns-then-a-b : goal.returns-then-a-b

@@ -1,11 +1,9 @@
 -- `equal` meets its contract.
 -- Assumes nothing.
-use Rattle.record.proofs.Sameness.{other_length, same_end, same_more, same_other}
 use Rattle.record.specs.Items.{same}
 use lib.ListN.{length, drop}
-use native.Mathlib.Omega.{arith}
 use Prim.Native.Nat.{◌≤◌, ◌-◌}
-use mathlib.Core.Path.{◌≡◌, refl, sym, ◌∙◌}
+use mathlib.Core.Path.{◌≡◌}
 use Rattle.record.proofs.line.equal.Given as goal
 
 abbrev pub invariant-loop-i : goal.invariant-loop-i

@@ -1,6 +1,5 @@
 -- `equal_names` meets its contract.
 -- Assumes nothing.
-use borrow.Author.Rules.{rules}
 use Rattle.record.proofs.line.equal_names.Goals as goal
 
 pub returns-in-Plain : goal.returns-in-Plain

@@ -10,7 +10,6 @@ use Rattle.record.specs.Grammar.{count_of}
 use Rattle.record.specs.Parsing.{parsed_count}
 use Rattle.record.proofs.Splitting.{a_count, no_count, before_length}
 use Rattle.record.proofs.Heading.{before_front}
-use borrow.Author.Rules.{rules}
 use Rattle.record.proofs.splitter.count_item.Goals as goal
 
 pub slice_bounds-count_bytes-end : goal.slice_bounds-count_bytes-end

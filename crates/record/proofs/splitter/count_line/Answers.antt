@@ -1,10 +1,8 @@
 -- `count_line` meets its contract.
 -- Assumes nothing.
-use mathlib.Core.Path.{◌≡◌, sym, ◌∙◌}
-use mathlib.Core.Option.{some, none}
+use mathlib.Core.Path.{sym, ◌∙◌}
 use Rattle.record.specs.Buffer.{line_count}
 use Rattle.record.proofs.Splitting.{a_count, no_count}
-use borrow.Author.Rules.{rules}
 use Rattle.record.proofs.splitter.count_line.Goals as goal
 
 pub returns-in-Of : goal.returns-in-Of

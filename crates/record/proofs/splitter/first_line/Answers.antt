@@ -2,7 +2,6 @@
 -- Assumes nothing.
 use mathlib.Core.Path.{sym, ◌∙◌}
 use Rattle.record.specs.Splitting.{after_first}
-use borrow.Author.Rules.{rules}
 use Rattle.record.proofs.splitter.first_line.Goals as goal
 
 pub returns-then-is_states : goal.returns-then-is_states

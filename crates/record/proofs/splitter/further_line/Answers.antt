@@ -4,7 +4,6 @@ use Rattle.record.proofs.Splitting.{parsed_item}
 use Rattle.record.specs.Splitting.{after_further}
 use Rattle.record.specs.Buffer.{line_in}
 use borrow.Author.Tests.{le-leb, lt-leb}
-use borrow.Author.Rules.{rules}
 use Rattle.record.proofs.splitter.further_line.Goals as goal
 
 pub returns-then-number-gt-MAX_LINES : goal.returns-then-number-gt-MAX_LINES

@@ -1,6 +1,5 @@
 -- `item_of` meets its contract.
 -- Assumes nothing.
-use borrow.Author.Rules.{rules}
 use Rattle.record.proofs.splitter.item_of.Goals as goal
 
 pub returns-in-Update : goal.returns-in-Update

@@ -1,10 +1,6 @@
 -- `line_end` meets its contract.
 -- Assumes nothing.
-use native.Mathlib.Omega.{arith}
-use Prim.Native.Nat.{◌+◌, ◌-◌}
-use mathlib.Core.Path.{◌≡◌, sym, ◌∙◌}
-use lib.ListN.{length, drop}
-use Rattle.record.specs.Lines.{before}
+use mathlib.Core.Path.{sym, ◌∙◌}
 use Rattle.record.proofs.Heading.{before_over, before_break, before_more}
 use Rattle.record.proofs.splitter.line_end.Goals as goal
 

@@ -1,11 +1,9 @@
 -- `line_end` meets its contract.
 -- Assumes nothing.
-use native.Mathlib.Omega.{arith}
 use Prim.Native.Nat.{◌+◌, ◌-◌}
-use mathlib.Core.Path.{◌≡◌, sym, ◌∙◌}
+use mathlib.Core.Path.{◌≡◌}
 use lib.ListN.{length, drop}
 use Rattle.record.specs.Lines.{before}
-use Rattle.record.proofs.Heading.{before_over, before_break, before_more}
 use Rattle.record.proofs.splitter.line_end.Given as goal
 
 abbrev pub invariant-loop-i : goal.invariant-loop-i

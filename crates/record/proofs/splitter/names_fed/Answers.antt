@@ -1,6 +1,5 @@
 -- `names_fed` meets its contract.
 -- Assumes nothing.
-use borrow.Author.Rules.{rules}
 use Rattle.record.proofs.splitter.names_fed.Goals as goal
 
 pub returns : goal.returns

@@ -2,7 +2,6 @@
 -- Assumes nothing.
 use mathlib.Core.Path.{sym, ◌∙◌}
 use Rattle.record.specs.Splitting.{after_names}
-use borrow.Author.Rules.{rules}
 use Rattle.record.proofs.splitter.names_line.Goals as goal
 
 pub returns-then-is_names : goal.returns-then-is_names

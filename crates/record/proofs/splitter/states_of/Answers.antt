@@ -13,7 +13,6 @@ use Rattle.record.specs.Items.{same}
 use Rattle.record.specs.Splitting.{count_fed}
 use Rattle.record.proofs.Splitting.{before_length}
 use Rattle.record.proofs.Heading.{before_front, no_states, missing_count, has_count}
-use borrow.Author.Rules.{rules}
 use Rattle.record.proofs.splitter.states_of.Goals as goal
 
 pub slice_bounds-equal-end : goal.slice_bounds-equal-end

@@ -1,7 +1,6 @@
 -- `put_byte` meets its contract.
 -- Assumes nothing.
 use Rattle.record.proofs.Writing.{wrote_byte}
-use borrow.Author.Rules.{rules}
 use Rattle.record.proofs.text.put_byte.Goals as goal
 
 pub returns : goal.returns

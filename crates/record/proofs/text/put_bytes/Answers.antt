@@ -1,11 +1,11 @@
 -- `put_bytes` meets its contract.
 -- Assumes nothing.
 use Rattle.record.proofs.Writing.{copied, all_copied}
-use lib.ListN.{length, get_or, take, drop, set, length-set}
+use lib.ListN.{get_or, set, length-set}
 use native.Mathlib.Omega.{arith}
-use Prim.Native.Nat.{ℕ, ◌≤◌, ◌-◌}
-use mathlib.Core.List.{List, ◌++◌}
-use mathlib.Core.Path.{◌≡◌, refl, ◌∙◌, ap}
+use Prim.Native.Nat.{ℕ}
+use mathlib.Core.List.{List}
+use mathlib.Core.Path.{refl, ◌∙◌, ap}
 use Rattle.record.proofs.text.put_bytes.Goals as goal
 
 pub loop-i-init : goal.loop-i-init

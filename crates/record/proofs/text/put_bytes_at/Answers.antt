@@ -2,7 +2,6 @@
 -- Assumes nothing.
 use Rattle.record.proofs.Writing.{lent_back}
 use native.Mathlib.Omega.{arith}
-use borrow.Author.Rules.{rules}
 use Rattle.record.proofs.text.put_bytes_at.Goals as goal
 
 pub returns : goal.returns

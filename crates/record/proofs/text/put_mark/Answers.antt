@@ -2,7 +2,6 @@
 -- Assumes nothing.
 use Rattle.record.proofs.Writing.{head_length, mark_length, wrote_mark}
 use native.Mathlib.Omega.{arith}
-use borrow.Author.Rules.{rules}
 use Rattle.record.proofs.text.put_mark.Goals as goal
 
 pub put_head-at-requires : goal.put_head-at-requires

@@ -3,7 +3,6 @@
 use Rattle.record.proofs.Writing.{lent_back}
 use Rattle.record.specs.Text.{decimal}
 use native.Mathlib.Omega.{arith}
-use borrow.Author.Rules.{rules}
 use Rattle.record.proofs.text.put_number_at.Goals as goal
 
 pub returns : goal.returns

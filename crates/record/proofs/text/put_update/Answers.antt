@@ -1,6 +1,5 @@
 -- `put_update` meets its contract.
 -- Assumes nothing.
-use borrow.Author.Rules.{rules}
 use Rattle.record.proofs.text.put_update.Goals as goal
 
 pub put_step-requires : goal.put_step-requires

@@ -1,12 +1,9 @@
 -- `list_lines` lists line after line. The invariant: what was written is the text of the lines passed. The measure is what is left of the part.
 -- Assumes nothing.
-use mathlib.Core.Logic.{inl, inr}
 use Prim.Native.Nat.{◌-◌}
-use native.Mathlib.Omega.{arith}
 use lib.ListN.{length}
 use Rattle.tables.specs.Tables.{tables_of}
-use Rattle.report.proofs.Lining.{Lining, lining_none, lining_length, lining_more, lining_lines}
-use borrow.Author.Rules.{rules}
+use Rattle.report.proofs.Lining.{Lining}
 use Rattle.report.proofs.lines.list_lines.Given as goal
 
 abbrev pub invariant-loop-next : goal.invariant-loop-next

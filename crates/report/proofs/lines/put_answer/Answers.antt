@@ -9,7 +9,6 @@ use lib.ListN.{get_or}
 use lib.Seq.{length-take-le}
 use Rattle.reader.specs.declared.driver.LineAnswer.{LineAnswer}
 use Rattle.reader.specs.Advancing.{Bounded}
-use borrow.Author.Rules.{rules}
 use Rattle.report.proofs.lines.put_answer.Goals as goal
 
 pub slice_bounds-put_news-end : goal.slice_bounds-put_news-end

@@ -1,7 +1,6 @@
 -- `begin` opens the tables and writes the header, where there is room.
 -- Assumes nothing.
 use Rattle.report.proofs.Beginning.{begins_short}
-use borrow.Author.Rules.{rules}
 use Rattle.report.proofs.lister.begin.Goals as goal
 
 pub returns-then-output-lt-LISTER_ROOM : goal.returns-then-output-lt-LISTER_ROOM

@@ -2,7 +2,6 @@
 -- Assumes nothing.
 use native.Mathlib.Omega.{arith}
 use Rattle.report.proofs.Beginning.{begins_refused, begins_ready}
-use borrow.Author.Rules.{rules}
 use Rattle.report.proofs.lister.begun.Goals as goal
 
 pub put_header-end-requires : goal.put_header-end-requires

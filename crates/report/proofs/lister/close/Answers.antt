@@ -8,7 +8,6 @@ use Rattle.tables.proofs.Numbers.{lesser}
 use Rattle.report.specs.Lister.{short, totals}
 use Rattle.reader.specs.Opening.{reader_states}
 use Rattle.report.proofs.Placing.{totals-room}
-use borrow.Author.Rules.{rules}
 use Rattle.report.proofs.lister.close.Goals as goal
 
 pub returns-then-output-end-lt-TOTALS_ROOM : goal.returns-then-output-end-lt-TOTALS_ROOM

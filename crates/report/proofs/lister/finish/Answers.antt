@@ -3,7 +3,6 @@
 use mathlib.Core.Path.{refl, sym, ◌∙◌}
 use native.Mathlib.Omega.{arith}
 use Rattle.report.specs.Lister.{waits, continues, stops, ends}
-use borrow.Author.Rules.{rules}
 use Rattle.report.proofs.lister.finish.Goals as goal
 
 pub returns-then-next-len : goal.returns-then-next-len

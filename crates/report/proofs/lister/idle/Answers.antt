@@ -1,6 +1,5 @@
 -- `idle` meets its contract.
 -- Assumes nothing.
-use borrow.Author.Rules.{rules}
 use Rattle.report.proofs.lister.idle.Goals as goal
 
 pub returns : goal.returns

@@ -1,13 +1,12 @@
 -- `list` lists lines behind the text in the output, where there is room, and what is to be done then.
 -- Assumes nothing.
-use mathlib.Core.Path.{refl, sym, ◌∙◌}
+use mathlib.Core.Path.{refl, sym}
 use native.Mathlib.Omega.{arith}
 use lib.Seq.{length-take-le}
 use Rattle.record.proofs.Splitting.{last_short, last_part}
 use Rattle.report.specs.Lister.{full}
 use Rattle.report.proofs.Lining.{lines_length}
 use Rattle.report.proofs.Tasks.{start_piece, lists_by}
-use borrow.Author.Rules.{rules}
 use Rattle.report.proofs.lister.list.Goals as goal
 
 pub returns-then-is_short : goal.returns-then-is_short

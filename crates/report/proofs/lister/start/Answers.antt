@@ -1,6 +1,5 @@
 -- `start` meets its contract.
 -- Assumes nothing.
-use borrow.Author.Rules.{rules}
 use Rattle.report.proofs.lister.start.Goals as goal
 
 pub returns-in-Write : goal.returns-in-Write

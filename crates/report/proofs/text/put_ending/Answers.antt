@@ -5,10 +5,8 @@ use Rattle.record.proofs.Placing.{placed_then, placed_byte}
 use Rattle.record.proofs.Decimals.{five_digits}
 use Rattle.record.specs.Text.{decimal}
 use Rattle.report.specs.Texts.{ending}
-use mathlib.Core.Path.{◌∙◌}
 use mathlib.Core.List.{◌++◌}
-use lib.ListN.{length-set, length-append}
-use borrow.Author.Rules.{rules}
+use lib.ListN.{length-append}
 use Rattle.report.proofs.text.put_ending.Goals as goal
 
 pub put_number_at-end-requires : goal.put_number_at-end-requires

@@ -3,10 +3,10 @@
 use native.Mathlib.Omega.{arith}
 use Rattle.record.proofs.Placing.{placed_none}
 use Rattle.report.proofs.Placing.{news_then, news_few}
-use Prim.Native.Nat.{ℕ, ◌+◌, ◌*◌, ◌-◌, ◌≤◌, ◌<◌}
+use Prim.Native.Nat.{ℕ, ◌+◌}
 use mathlib.Core.Path.{◌≡◌, refl, ◌∙◌, subst}
 use mathlib.Core.List.{List}
-use lib.ListN.{length, get_or, take}
+use lib.ListN.{get_or, take}
 use lib.Seq.{take_all}
 use Rattle.record.specs.Text.{WroteAt}
 use Rattle.report.specs.Texts.{news_text}

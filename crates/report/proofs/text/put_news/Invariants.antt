@@ -1,13 +1,8 @@
 -- `put_news` meets its contract.
 -- Assumes nothing.
-use native.Mathlib.Omega.{arith}
-use Rattle.record.proofs.Placing.{placed_none}
-use Rattle.report.proofs.Placing.{news_then, news_few}
-use Prim.Native.Nat.{ℕ, ◌+◌, ◌*◌, ◌-◌, ◌≤◌, ◌<◌}
-use mathlib.Core.Path.{◌≡◌, refl, ◌∙◌, subst}
-use mathlib.Core.List.{List}
+use Prim.Native.Nat.{ℕ, ◌*◌, ◌-◌, ◌≤◌, ◌<◌}
+use mathlib.Core.Path.{◌≡◌}
 use lib.ListN.{length, get_or, take}
-use lib.Seq.{take_all}
 use Rattle.record.specs.Text.{WroteAt}
 use Rattle.report.specs.Texts.{news_text}
 use Rattle.report.proofs.text.put_news.Given as goal

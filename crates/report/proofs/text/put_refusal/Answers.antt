@@ -3,7 +3,6 @@
 use native.Mathlib.Omega.{arith}
 use Rattle.report.proofs.Placing.{row_room}
 use Rattle.report.specs.Texts.{refused_word}
-use borrow.Author.Rules.{rules}
 use Rattle.report.proofs.text.put_refusal.Goals as goal
 
 pub returns : goal.returns

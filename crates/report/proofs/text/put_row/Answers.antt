@@ -6,7 +6,6 @@ use Rattle.report.proofs.Placing.{ending_room}
 use Rattle.record.proofs.Decimals.{five_digits}
 use Rattle.record.specs.Text.{decimal}
 use Rattle.report.specs.Texts.{ending, row}
-use borrow.Author.Rules.{rules}
 use Rattle.report.proofs.text.put_row.Goals as goal
 
 pub put_number_at-behind-requires : goal.put_number_at-behind-requires

@@ -9,7 +9,6 @@ use Rattle.record.specs.Text.{WroteAt}
 use Rattle.totals.specs.declared.Totals.{Totals}
 use Rattle.totals.proofs.Counting.{totals_few}
 use Rattle.report.specs.Texts.{open_word, unknown_word, end_live_word, totals_text}
-use borrow.Author.Rules.{rules}
 use Rattle.report.proofs.text.put_totals.Goals as goal
 
 pub put_ending-first-requires : goal.put_ending-first-requires

@@ -1,7 +1,6 @@
 -- `put_verdict` meets its contract.
 -- Assumes nothing.
 use borrow.Author.Tests.{eq-eqb, ne_eqb}
-use borrow.Author.Rules.{rules}
 use Rattle.report.proofs.text.put_verdict.Goals as goal
 
 pub returns-then-status-eq-LIVE : goal.returns-then-status-eq-LIVE

@@ -4,7 +4,7 @@ use mathlib.Core.Path.{refl, sym}
 use mathlib.Core.Logic.{inl, inr}
 use Prim.Native.Nat.{◌-◌}
 use native.Mathlib.Omega.{arith}
-use Rattle.search.proofs.Walking.{Walking, walk_first, walk_here, walk_next}
+use Rattle.search.proofs.Walking.{walk_first, walk_here, walk_next}
 use Rattle.search.proofs.near.escape_within.Goals as goal
 
 pub loop-p-init : goal.loop-p-init

@@ -1,10 +1,6 @@
 -- `escape_within` answers a step out of u. The invariant: the walk stands at a step out of u. The measure is its place.
 -- Assumes nothing.
-use mathlib.Core.Path.{refl, sym}
-use mathlib.Core.Logic.{inl, inr}
-use Prim.Native.Nat.{◌-◌}
-use native.Mathlib.Omega.{arith}
-use Rattle.search.proofs.Walking.{Walking, walk_first, walk_here, walk_next}
+use Rattle.search.proofs.Walking.{Walking}
 use Rattle.search.proofs.near.escape_within.Given as goal
 
 abbrev pub invariant-loop-p : goal.invariant-loop-p

@@ -5,7 +5,6 @@ use mathlib.Core.Logic.{inl, inr}
 use Prim.Native.Nat.{ℕ}
 use native.Mathlib.Omega.{arith}
 use lib.ListN.{get_or}
-use borrow.Author.Rules.{rules}
 use Rattle.search.proofs.near.follow.Goals as goal
 
 pub returns-then-status-s-ne-UNKNOWN : goal.returns-then-status-s-ne-UNKNOWN

@@ -2,7 +2,7 @@
 -- Assumes nothing.
 use mathlib.Core.Bool.{false≢true}
 use native.Mathlib.Omega.{arith}
-use Rattle.search.specs.Escaping.{toward, Near}
+use Rattle.search.specs.Escaping.{toward}
 use Rattle.search.proofs.Escaping.{near_here, near_before}
 use Rattle.search.proofs.near.meets_open.Goals as goal
 

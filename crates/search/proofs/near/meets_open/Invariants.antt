@@ -1,9 +1,6 @@
 -- `meets_open` answers true only where an open state is near. The invariant: if one is near s, one is near the start. The measure is the number of states left to look at.
 -- Assumes nothing.
-use mathlib.Core.Bool.{false≢true}
-use native.Mathlib.Omega.{arith}
 use Rattle.search.specs.Escaping.{toward, Near}
-use Rattle.search.proofs.Escaping.{near_here, near_before}
 use Rattle.search.proofs.near.meets_open.Given as goal
 
 abbrev pub invariant-loop-left : goal.invariant-loop-left

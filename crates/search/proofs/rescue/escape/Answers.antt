@@ -8,7 +8,6 @@ use Rattle.tables.proofs.Marking.{has-mark}
 use Rattle.search.specs.Releasing.{stays, leaves}
 use Rattle.search.proofs.Walking.{linked_inside}
 use Rattle.search.proofs.Releasing.{room_left, no_way, a_way}
-use borrow.Author.Rules.{rules}
 use Rattle.search.proofs.rescue.escape.Goals as goal
 
 pub is_visited-requires : goal.is_visited-requires

@@ -1,10 +1,8 @@
 -- `escapes` releases each queued node with a way out. The invariant: so far it did. The measure is what is left of the queue.
 -- Assumes nothing.
 use mathlib.Core.Path.{◌≡◌, sym}
-use Prim.Native.Nat.{◌-◌, ◌≤◌}
 use native.Mathlib.Omega.{arith}
-use Rattle.search.specs.Spreading.{chains, out_of}
-use Rattle.search.proofs.Releasing.{Trying, trying_none, trying_more}
+use Rattle.search.proofs.Releasing.{trying_none, trying_more}
 use Rattle.search.proofs.rescue.escapes.Goals as goal
 
 pub loop-at-init : goal.loop-at-init

@@ -8,7 +8,6 @@ use native.Mathlib.Omega.{arith}
 use lib.Dec.{eqb}
 use lib.ListN.{get_or}
 use borrow.Author.Tests.{lt-ltb, le-ltb, eq-eqb, ne_eqb}
-use borrow.Author.Rules.{rules}
 use Rattle.tables.specs.Visits.{marked}
 use Rattle.tables.proofs.Marking.{has-mark}
 use Rattle.gid.specs.Statuses.{status_open, status_unknown}

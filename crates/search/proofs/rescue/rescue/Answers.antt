@@ -1,10 +1,8 @@
 -- `rescue` leaves no visited source of a released node. The invariant: so for the first nodes of the queue. The measure is what is left up to n, which the queue never passes.
 -- Assumes nothing.
 use mathlib.Core.Path.{sym}
-use Prim.Native.Nat.{◌-◌}
 use native.Mathlib.Omega.{arith}
-use Rattle.search.specs.Spreading.{chains, into}
-use Rattle.search.proofs.Releasing.{Saving, saving_none, saving_more, saving_end}
+use Rattle.search.proofs.Releasing.{saving_none, saving_more, saving_end}
 use Rattle.search.proofs.rescue.rescue.Goals as goal
 
 pub loop-at-init : goal.loop-at-init

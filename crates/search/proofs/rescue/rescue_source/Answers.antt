@@ -5,7 +5,6 @@ use native.Mathlib.Omega.{arith}
 use Rattle.tables.proofs.Marking.{has-mark}
 use Rattle.search.specs.Releasing.{passed, pulled}
 use Rattle.search.proofs.Releasing.{room_left}
-use borrow.Author.Rules.{rules}
 use Rattle.search.proofs.rescue.rescue_source.Goals as goal
 
 pub returns-then-n-y : goal.returns-then-n-y

@@ -1,8 +1,7 @@
 -- `rescue_sources` leaves x no visited source. The invariant: so for the steps that the walk has passed. The measure is its place.
 -- Assumes nothing.
-use native.Mathlib.Omega.{arith}
 use Rattle.search.specs.Spreading.{chains}
-use Rattle.search.proofs.Releasing.{Pulling, pulling_first, pulling_more, pulling_end}
+use Rattle.search.proofs.Releasing.{Pulling}
 use Rattle.search.proofs.rescue.rescue_sources.Given as goal
 
 abbrev pub invariant-loop-p : goal.invariant-loop-p

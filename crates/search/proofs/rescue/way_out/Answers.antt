@@ -1,12 +1,11 @@
 -- `way_out` answers a step that leads out, or none does. The invariant: none that the walk has passed. The measure is its place.
 -- Assumes nothing.
-use mathlib.Core.Path.{◌≡◌, refl, sym, ◌∙◌}
-use mathlib.Core.Bool.{false}
+use mathlib.Core.Path.{refl, sym, ◌∙◌}
 use Prim.Native.Nat.{◌-◌}
 use native.Mathlib.Omega.{arith}
 use lib.ListN.{get_or}
-use Rattle.search.specs.Releasing.{outside, none, found}
-use Rattle.search.proofs.Walking.{Walking, walk_first, walk_here, walk_next, walk_end}
+use Rattle.search.specs.Releasing.{none, found}
+use Rattle.search.proofs.Walking.{walk_first, walk_here, walk_next, walk_end}
 use Rattle.search.proofs.rescue.way_out.Goals as goal
 
 pub loop-p-init : goal.loop-p-init

@@ -1,12 +1,10 @@
 -- `way_out` answers a step that leads out, or none does. The invariant: none that the walk has passed. The measure is its place.
 -- Assumes nothing.
-use mathlib.Core.Path.{◌≡◌, refl, sym, ◌∙◌}
+use mathlib.Core.Path.{◌≡◌}
 use mathlib.Core.Bool.{false}
-use Prim.Native.Nat.{◌-◌}
-use native.Mathlib.Omega.{arith}
 use lib.ListN.{get_or}
-use Rattle.search.specs.Releasing.{outside, none, found}
-use Rattle.search.proofs.Walking.{Walking, walk_first, walk_here, walk_next, walk_end}
+use Rattle.search.specs.Releasing.{outside}
+use Rattle.search.proofs.Walking.{Walking}
 use Rattle.search.proofs.rescue.way_out.Given as goal
 
 abbrev pub invariant-loop-p : goal.invariant-loop-p

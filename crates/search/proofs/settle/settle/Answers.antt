@@ -1,8 +1,7 @@
 -- `settle` settles the visited nodes of the span. The loop's invariant: the nodes below s have been seen. The measure is how many are left.
 -- Assumes nothing.
-use Prim.Native.Nat.{◌+◌, ◌-◌}
 use native.Mathlib.Omega.{arith}
-use Rattle.search.proofs.Settling.{Settling, settling_first, settling_next, settling_mark, settling_skip, settling_last}
+use Rattle.search.proofs.Settling.{settling_first, settling_next, settling_mark, settling_skip, settling_last}
 use Rattle.search.proofs.settle.settle.Goals as goal
 
 pub loop-s-init : goal.loop-s-init

@@ -1,7 +1,6 @@
 -- `settle_node` settles the node where it is visited, and writes nothing elsewhere.
 -- Assumes nothing.
 use mathlib.Core.Path.{refl, sym, ◌∙◌}
-use borrow.Author.Rules.{rules}
 use Rattle.search.specs.Settling.{passed, settled}
 use Rattle.search.proofs.settle.settle_node.Goals as goal
 

@@ -4,7 +4,6 @@ use mathlib.Core.Path.{sym, ap, ◌∙◌}
 use borrow.Author.Tests.{eq-eqb, ne_eqb}
 use Rattle.search.specs.declared.spread.Mode.{Mode}
 use Rattle.search.specs.Spreading.{allowed}
-use borrow.Author.Rules.{rules}
 use Rattle.search.proofs.spread.allowed.Goals as goal
 
 pub returns-then-status-y-ne-UNKNOWN : goal.returns-then-status-y-ne-UNKNOWN

@@ -6,7 +6,6 @@ use Prim.Native.Nat.{◌<◌}
 use native.Mathlib.Omega.{arith}
 use Rattle.tables.proofs.Marking.{has-mark}
 use Rattle.search.proofs.Marking.{unvisited_mark}
-use borrow.Author.Rules.{rules}
 use Rattle.search.specs.Offering.{passed, taken}
 use Rattle.search.proofs.spread.offer.Goals as goal
 

@@ -1,8 +1,7 @@
 -- `offer_sources` offers the source of each step into x. The loop's invariant: each such step is still to be met, or its source has been offered. The measure is where the walk stands.
 -- Assumes nothing.
 use native.Mathlib.Omega.{arith}
-use Rattle.search.specs.Spreading.{chains, allowed}
-use Rattle.search.proofs.Offering.{OfferWalk, offer_first, offer_next, offer_last}
+use Rattle.search.proofs.Offering.{offer_first, offer_next, offer_last}
 use Rattle.search.proofs.spread.offer_sources.Goals as goal
 
 pub loop-p-init : goal.loop-p-init

@@ -1,10 +1,8 @@
 -- `spread` visits exactly the reached nodes. The loop's invariant: the sources of the nodes in front of `at` in the queue have been offered. The measure is what is left of n.
 -- Assumes nothing.
-use Prim.Native.Nat.{◌-◌}
 use native.Mathlib.Omega.{arith}
-use borrow.Author.Rules.{rules}
-use Rattle.search.specs.Spreading.{chains, into, allowed}
-use Rattle.search.proofs.Spreading.{Rounds, rounds_none, rounds_more, spread_ends}
+use Rattle.search.specs.Spreading.{allowed}
+use Rattle.search.proofs.Spreading.{rounds_none, rounds_more, spread_ends}
 use Rattle.search.proofs.spread.spread.Goals as goal
 
 pub loop-at-init : goal.loop-at-init

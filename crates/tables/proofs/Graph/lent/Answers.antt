@@ -1,6 +1,5 @@
 use borrow.Author.Tests.{eq-eqb, ne_eqb, lt-ltb, le-ltb}
 use Rattle.tables.specs.Refused.{lent_number}
-use Rattle.tables.proofs.Graph.lent.Reads as reads
 use Rattle.tables.proofs.Graph.lent.Goals as goal
 
 pub returns-then-self-eq0 : goal.returns-then-self-eq0

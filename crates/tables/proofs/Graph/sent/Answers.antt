@@ -1,4 +1,3 @@
-use borrow.Author.Rules.{rules}
 use Rattle.tables.proofs.Graph.sent.Goals as goal
 
 pub returns-in-Step : goal.returns-in-Step

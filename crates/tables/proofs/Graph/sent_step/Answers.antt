@@ -1,7 +1,6 @@
 use mathlib.Core.Path.{sym, ◌∙◌}
 use borrow.Author.Tests.{le-leb, lt-leb, lt-ltb, le-ltb}
 use Rattle.tables.specs.Refused.{sent_number}
-use borrow.Author.Rules.{rules}
 use Rattle.tables.proofs.Graph.sent_step.Goals as goal
 
 pub returns-then-self-from : goal.returns-then-self-from

@@ -1,9 +1,6 @@
 use mathlib.Core.Path.{sym, ◌∙◌}
 use borrow.Author.Tests.{le-leb, lt-leb}
 use Rattle.tables.specs.Refused.{sent_number}
-use borrow.Author.Rules.{rules}
-use Rattle.tables.proofs.Graph.sent_terminal.Reads as reads
-use Rattle.tables.proofs.marks.has_closed.Reads as has-closed-reads
 use Rattle.tables.proofs.Graph.sent_terminal.Goals as goal
 
 pub returns-then-self-state : goal.returns-then-self-state

@@ -1,12 +1,9 @@
 use lib.Dec.{leb}
 use lib.ListN.{length}
 use native.Mathlib.Omega.{arith}
-use mathlib.Core.Path.{◌≡◌, sym, ◌∙◌}
+use mathlib.Core.Path.{sym, ◌∙◌}
 use borrow.Author.Tests.{le-leb, lt-leb, leb-true}
-use Rattle.tables.specs.Tables.{nodes_of}
-use Rattle.tables.specs.Refused.{lent_number}
 use Rattle.tables.proofs.Refusing.{lent_leaves, status_refused, status_range, status_byte}
-use borrow.Author.Rules.{rules}
 use Rattle.tables.proofs.Graph.status.Goals as goal
 
 pub returns-then-refused-ne0 : goal.returns-then-refused-ne0

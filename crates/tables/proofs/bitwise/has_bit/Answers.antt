@@ -1,7 +1,6 @@
 -- `has_bit` reads a bit.
 -- Assumes nothing.
 use mathlib.Core.Path.{refl}
-use borrow.Author.Rules.{rules}
 use Rattle.tables.specs.Bits.{has_bit}
 use Rattle.tables.proofs.bitwise.has_bit.Goals as goal
 

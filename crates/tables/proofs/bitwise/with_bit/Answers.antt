@@ -1,7 +1,6 @@
 -- `with_bit` sets a bit: it adds its weight, where it is not set.
 -- Assumes nothing.
 use mathlib.Core.Path.{sym, ◌∙◌}
-use borrow.Author.Rules.{rules}
 use Rattle.tables.proofs.BitLaws.{with_new, with_old, bit_room, one_shift}
 use Rattle.tables.proofs.bitwise.with_bit.Goals as goal
 

@@ -1,7 +1,6 @@
 -- `without_bit` clears a bit: it takes its weight away, where it is set.
 -- Assumes nothing.
 use mathlib.Core.Path.{sym, ◌∙◌}
-use borrow.Author.Rules.{rules}
 use Rattle.tables.proofs.BitLaws.{without_old, without_none, weight_below, one_shift}
 use Rattle.tables.proofs.bitwise.without_bit.Goals as goal
 

@@ -1,8 +1,5 @@
-use Rattle.tables.proofs.Keeping.{filled_length, filled_none, filled_more}
-use mathlib.Core.Path.{◌≡◌, ◌∙◌}
-use native.Mathlib.Omega.{arith}
+use mathlib.Core.Path.{◌≡◌}
 use Prim.Native.Nat.{◌≤◌, ◌-◌}
-use borrow.Author.Rules.{rules}
 use Rattle.tables.specs.Keeping.{filled}
 use Rattle.tables.proofs.entries.fill.Given as goal
 

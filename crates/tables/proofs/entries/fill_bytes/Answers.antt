@@ -1,8 +1,6 @@
 use Rattle.tables.proofs.Keeping.{filled_length, filled_none, filled_more}
 use mathlib.Core.Path.{◌≡◌, ◌∙◌}
 use native.Mathlib.Omega.{arith}
-use Prim.Native.Nat.{◌≤◌, ◌-◌}
-use Rattle.tables.specs.Keeping.{filled}
 use Rattle.tables.proofs.entries.fill_bytes.Goals as goal
 
 pub loop-i-init : goal.loop-i-init

@@ -1,6 +1,4 @@
-use Rattle.tables.proofs.Keeping.{filled_length, filled_none, filled_more}
-use mathlib.Core.Path.{◌≡◌, ◌∙◌}
-use native.Mathlib.Omega.{arith}
+use mathlib.Core.Path.{◌≡◌}
 use Prim.Native.Nat.{◌≤◌, ◌-◌}
 use Rattle.tables.specs.Keeping.{filled}
 use Rattle.tables.proofs.entries.fill_bytes.Given as goal

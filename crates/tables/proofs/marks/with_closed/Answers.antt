@@ -1,7 +1,5 @@
 use native.Mathlib.Omega.{arith}
 use Rattle.tables.specs.Marks.{with_closed}
-use borrow.Author.Rules.{rules}
-use Rattle.tables.proofs.marks.with_closed.Reads as reads
 use Rattle.tables.proofs.marks.with_closed.Goals as goal
 
 pub returns-then-m-eq0 : goal.returns-then-m-eq0

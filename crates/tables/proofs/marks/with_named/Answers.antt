@@ -1,7 +1,5 @@
 use native.Mathlib.Omega.{arith}
 use Rattle.tables.specs.Marks.{with_named}
-use borrow.Author.Rules.{rules}
-use Rattle.tables.proofs.marks.with_named.Reads as reads
 use Rattle.tables.proofs.marks.with_named.Goals as goal
 
 pub returns-then-m-eq0 : goal.returns-then-m-eq0

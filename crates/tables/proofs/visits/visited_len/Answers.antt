@@ -1,6 +1,5 @@
 use native.Mathlib.Omega.{arith}
 use Rattle.tables.specs.Tables.{visited_length}
-use borrow.Author.Rules.{rules}
 use Rattle.tables.proofs.visits.visited_len.Goals as goal
 
 pub returns : goal.returns

@@ -3,7 +3,6 @@
 use native.Mathlib.Omega.{arith}
 use Rattle.record.proofs.Placing.{placed_on}
 use Rattle.writer.proofs.Bytes.{head_size}
-use borrow.Author.Rules.{rules}
 use Rattle.writer.proofs.filling.put_head.Goals as goal
 
 pub put_bytes_at-count-requires : goal.put_bytes_at-count-requires

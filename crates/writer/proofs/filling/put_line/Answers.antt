@@ -8,7 +8,6 @@ use mathlib.Core.List.{[], ◌∷◌}
 use lib.ListN.{length, drop, length-append, length-take, length-drop}
 use Prim.Native.Nat.{◌-◌}
 use native.Mathlib.Omega.{arith}
-use borrow.Author.Rules.{rules}
 use Rattle.writer.proofs.filling.put_line.Goals as goal
 
 pub put_update-requires : goal.put_update-requires

@@ -8,7 +8,6 @@ use native.Mathlib.Omega.{arith}
 use Rattle.record.proofs.Placing.{placed_none}
 use Rattle.writer.proofs.Bytes.{line_size, no_line}
 use mathlib.Core.Path.{◌≡◌, sym, ◌∙◌, ap}
-use borrow.Author.Rules.{rules}
 use Rattle.writer.proofs.filling.put_marked.Goals as goal
 
 pub put_line-requires : goal.put_line-requires

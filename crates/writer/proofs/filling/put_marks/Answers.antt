@@ -1,11 +1,8 @@
 -- `put_marks` meets its contract.
 -- Assumes nothing.
 use Rattle.writer.proofs.Bytes.{order_none, order_more, order_room}
-use Rattle.writer.specs.Order.{marking, is_marked, marked_lines, bytes_of}
-use Rattle.record.specs.Text.{WroteAt}
+use Rattle.writer.specs.Order.{marking, is_marked}
 use Rattle.record.proofs.Placing.{placed_none, placed_on}
-use lib.ListN.{length}
-use Prim.Native.Nat.{◌≤◌, ◌-◌}
 use native.Mathlib.Omega.{arith}
 use mathlib.Core.Path.{◌≡◌, refl}
 use Rattle.writer.proofs.filling.put_marks.Goals as goal

@@ -1,13 +1,10 @@
 -- `put_marks` meets its contract.
 -- Assumes nothing.
-use Rattle.writer.proofs.Bytes.{order_none, order_more, order_room}
-use Rattle.writer.specs.Order.{marking, is_marked, marked_lines, bytes_of}
+use Rattle.writer.specs.Order.{marked_lines, bytes_of}
 use Rattle.record.specs.Text.{WroteAt}
-use Rattle.record.proofs.Placing.{placed_none, placed_on}
 use lib.ListN.{length}
 use Prim.Native.Nat.{◌≤◌, ◌-◌}
-use native.Mathlib.Omega.{arith}
-use mathlib.Core.Path.{◌≡◌, refl}
+use mathlib.Core.Path.{◌≡◌}
 use Rattle.writer.proofs.filling.put_marks.Given as goal
 
 abbrev pub invariant-loop-s : goal.invariant-loop-s

@@ -3,7 +3,6 @@
 use Rattle.writer.proofs.Bytes.{parts, head_size, record_size}
 use Rattle.record.proofs.Placing.{placed_on}
 use native.Mathlib.Omega.{arith}
-use borrow.Author.Rules.{rules}
 use Rattle.writer.proofs.filling.put_record.Goals as goal
 
 pub put_head-terminals-requires : goal.put_head-terminals-requires

@@ -1,14 +1,10 @@
 -- `put_steps` meets its contract.
 -- Assumes nothing.
-use Rattle.writer.proofs.Bytes.{bytes_one, order_none, order_more, order_room}
-use Rattle.writer.specs.Order.{step_at, step_lines, bytes_of}
+use Rattle.writer.specs.Order.{step_lines, bytes_of}
 use Rattle.record.specs.Text.{WroteAt}
-use Rattle.record.proofs.Placing.{placed_none, placed_on}
 use lib.ListN.{length}
 use Prim.Native.Nat.{◌≤◌, ◌-◌}
-use native.Mathlib.Omega.{arith}
-use mathlib.Core.Bool.{true}
-use mathlib.Core.Path.{◌≡◌, refl}
+use mathlib.Core.Path.{◌≡◌}
 use Rattle.writer.proofs.filling.put_steps.Given as goal
 
 abbrev pub invariant-loop-p : goal.invariant-loop-p

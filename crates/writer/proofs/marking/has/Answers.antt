@@ -1,6 +1,5 @@
 -- `has` meets its contract.
 -- Assumes nothing.
-use borrow.Author.Rules.{rules}
 use Rattle.writer.proofs.marking.has.Goals as goal
 
 pub returns-in-Terminal : goal.returns-in-Terminal

@@ -1,6 +1,5 @@
 -- `update_of` meets its contract.
 -- Assumes nothing.
-use borrow.Author.Rules.{rules}
 use Rattle.writer.proofs.marking.update_of.Goals as goal
 
 pub returns-in-Terminal : goal.returns-in-Terminal

@@ -2,7 +2,6 @@
 -- Assumes nothing.
 use Rattle.writer.proofs.Bytes.{step_size, terminal_size, close_size}
 use native.Mathlib.Omega.{arith}
-use borrow.Author.Rules.{rules}
 use Rattle.writer.proofs.sizes.line_size.Goals as goal
 
 pub digits-requires : goal.digits-requires

@@ -2,7 +2,6 @@
 -- Assumes nothing.
 use Rattle.writer.proofs.Bytes.{marking_within, line_size, no_line}
 use mathlib.Core.Path.{sym, ◌∙◌}
-use borrow.Author.Rules.{rules}
 use Rattle.writer.proofs.sizes.mark_size.Goals as goal
 
 pub line_size-requires : goal.line_size-requires

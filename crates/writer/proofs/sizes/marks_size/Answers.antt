@@ -1,9 +1,8 @@
 -- `marks_size` meets its contract.
 -- Assumes nothing.
 use Rattle.writer.proofs.Bytes.{order_none, order_size, mark_bound}
-use Rattle.writer.specs.Order.{marking, is_marked, marked_lines, bytes_of}
+use Rattle.writer.specs.Order.{marking, is_marked}
 use lib.ListN.{length, get_or}
-use Prim.Native.Nat.{◌≤◌, ◌*◌, ◌-◌}
 use native.Mathlib.Omega.{arith}
 use mathlib.Core.Path.{◌≡◌, sym, ◌∙◌, ap}
 use Rattle.writer.proofs.sizes.marks_size.Goals as goal

@@ -1,11 +1,9 @@
 -- `marks_size` meets its contract.
 -- Assumes nothing.
-use Rattle.writer.proofs.Bytes.{order_none, order_size, mark_bound}
-use Rattle.writer.specs.Order.{marking, is_marked, marked_lines, bytes_of}
-use lib.ListN.{length, get_or}
+use Rattle.writer.specs.Order.{marked_lines, bytes_of}
+use lib.ListN.{length}
 use Prim.Native.Nat.{◌≤◌, ◌*◌, ◌-◌}
-use native.Mathlib.Omega.{arith}
-use mathlib.Core.Path.{◌≡◌, sym, ◌∙◌, ap}
+use mathlib.Core.Path.{◌≡◌}
 use Rattle.writer.proofs.sizes.marks_size.Given as goal
 
 abbrev pub invariant-loop-s : goal.invariant-loop-s

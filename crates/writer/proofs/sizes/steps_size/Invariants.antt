@@ -1,13 +1,9 @@
 -- `steps_size` meets its contract.
 -- Assumes nothing.
-use Rattle.writer.proofs.Bytes.{bytes_one, order_none, order_size, line_bound}
-use Rattle.writer.specs.Order.{step_at, step_lines, bytes_of}
-use mathlib.Core.Bool.{true}
+use Rattle.writer.specs.Order.{step_lines, bytes_of}
 use lib.ListN.{length}
 use Prim.Native.Nat.{◌≤◌, ◌*◌, ◌-◌}
-use borrow.Author.Rules.{rules}
-use native.Mathlib.Omega.{arith}
-use mathlib.Core.Path.{◌≡◌, sym, ◌∙◌, ap}
+use mathlib.Core.Path.{◌≡◌}
 use Rattle.writer.proofs.sizes.steps_size.Given as goal
 
 abbrev pub invariant-loop-p : goal.invariant-loop-p

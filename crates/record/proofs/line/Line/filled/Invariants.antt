@@ -1,13 +1,9 @@
 -- `filled` meets its contract.
 -- Assumes nothing.
-use Rattle.record.proofs.Filling.{with_long, with_short, filled_end, filled_break, filled_more}
 use Rattle.record.specs.Buffer.{filled_from}
-use Rattle.record.specs.declared.line.Line.{Line}
-use lib.ListN.{length, get_or}
-use borrow.Author.Rules.{rules}
-use native.Mathlib.Omega.{arith}
-use Prim.Native.Nat.{◌+◌, ◌-◌}
-use mathlib.Core.Path.{◌≡◌, refl, sym, ◌∙◌, ap}
+use lib.ListN.{length}
+use Prim.Native.Nat.{◌-◌}
+use mathlib.Core.Path.{◌≡◌}
 use Rattle.record.proofs.line.Line.filled.Given as goal
 
 abbrev pub invariant-loop-i : goal.invariant-loop-i

@@ -1,7 +1,6 @@
 -- `awaits` meets its contract.
 -- Assumes nothing.
 use Rattle.record.specs.Splitting.{awaited}
-use borrow.Author.Rules.{rules}
 use Rattle.record.proofs.splitter.Splitter.awaits.Goals as goal
 
 pub returns-then-self : goal.returns-then-self

@@ -1,7 +1,6 @@
 -- `ended` meets its contract.
 -- Assumes nothing.
 use Rattle.record.specs.Splitting.{in_phase, after_line}
-use borrow.Author.Rules.{rules}
 use Rattle.record.proofs.splitter.Splitter.ended.Goals as goal
 
 pub returns-then-self : goal.returns-then-self

@@ -2,7 +2,6 @@
 -- Assumes nothing.
 use Rattle.record.specs.Splitting.{after_part}
 use borrow.Author.Tests.{lt-ltb, le-ltb}
-use borrow.Author.Rules.{rules}
 use Rattle.record.proofs.splitter.Splitter.feed_line.Goals as goal
 
 pub returns-then-next-s : goal.returns-then-next-s

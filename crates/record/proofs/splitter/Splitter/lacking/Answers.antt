@@ -2,7 +2,6 @@
 -- Assumes nothing.
 use mathlib.Core.Path.{sym, ◌∙◌}
 use Rattle.record.specs.Splitting.{last_newlines}
-use borrow.Author.Rules.{rules}
 use Rattle.record.proofs.splitter.Splitter.lacking.Goals as goal
 
 pub returns-then-leads_on : goal.returns-then-leads_on

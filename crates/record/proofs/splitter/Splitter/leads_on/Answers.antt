@@ -3,7 +3,6 @@
 use mathlib.Core.Path.{◌∙◌, ap}
 use Rattle.record.specs.Parsing.{is_count}
 use Rattle.record.proofs.Splitting.{stopped_leads, first_leads, count_leads, names_leads, further_leads}
-use borrow.Author.Rules.{rules}
 use Rattle.record.proofs.splitter.Splitter.leads_on.Goals as goal
 
 pub returns-then-self : goal.returns-then-self

@@ -2,7 +2,6 @@
 -- Assumes nothing.
 use Rattle.record.specs.Splitting.{pending}
 use borrow.Author.Tests.{eq-eqb, ne_eqb}
-use borrow.Author.Rules.{rules}
 use Rattle.record.proofs.splitter.Splitter.pending.Goals as goal
 
 pub returns-then-line-eq0 : goal.returns-then-line-eq0

@@ -1,6 +1,5 @@
 -- `start` meets its contract.
 -- Assumes nothing.
-use borrow.Author.Rules.{rules}
 use Rattle.record.proofs.splitter.Splitter.start.Goals as goal
 
 pub returns : goal.returns

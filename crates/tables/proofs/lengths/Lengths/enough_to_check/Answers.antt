@@ -1,4 +1,3 @@
-use borrow.Author.Rules.{rules}
 use Rattle.tables.proofs.lengths.Lengths.enough_to_check.Goals as goal
 
 pub returns : goal.returns
