@@ -1,5 +1,7 @@
 -- `unless_live` answers by the one test of its definition.
 -- Assumes nothing.
+use native.Mathlib.Omega.{arith}
+use lib.ListN.{get_or}
 use borrow.Author.Tests.{eq-eqb, ne_eqb}
 use Rattle.engine.proofs.accept.unless_live.Goals as goal
 
@@ -7,4 +9,4 @@ pub returns-then-status-state-eq-LIVE : goal.returns-then-status-state-eq-LIVE
 returns-then-status-state-eq-LIVE c = rw (eq-eqb _ _ c.if-status-state-eq-LIVE.true)
 
 pub returns : goal.returns
-returns c = rw (ne_eqb _ _ c.if-status-state-eq-LIVE.false)
+returns c = rw (ne_eqb (get_or c.args.status.now c.args.state 0) 3 (λ e. omega arith))

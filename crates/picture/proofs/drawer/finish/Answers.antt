@@ -6,10 +6,10 @@ use Rattle.picture.specs.Drawer.{continues, stops, ends}
 use Rattle.picture.proofs.drawer.finish.Goals as goal
 
 pub returns-then-is_over : goal.returns-then-is_over
-returns-then-is_over c = stops c.if-given-gt0.true (sym c.is_over.ensures ∙ c.if-is_over.true) c.close.ensures
+returns-then-is_over c = stops (omega arith) (sym c.is_over.ensures ∙ c.if-is_over.true) c.close.ensures
 
 pub returns-then-given-gt0 : goal.returns-then-given-gt0
 returns-then-given-gt0 c = continues c.if-given-gt0.true (sym c.is_over.ensures ∙ c.if-is_over.false) refl refl
 
 pub returns : goal.returns
-returns c = ends (omega (arith, c.if-given-gt0.false)) c.close-2.ensures
+returns c = ends (omega arith) c.close-2.ensures

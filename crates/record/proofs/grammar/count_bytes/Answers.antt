@@ -39,4 +39,4 @@ returns c =
     let s = c.args.s.now in
     let n = c.in-Number.next in
     let k = c.in-Number.number in
-    rw (a_value s c.value_at.ensures c.in-Number.is, le-leb (length (drop n s)) 0 (omega (arith, length-drop n s, c.if-next-s.false)), le-leb 1 k c.if-number-lt1.false, le-leb k 2048 c.if-number-gt-MAX_STATES.false)
+    rw (a_value s c.value_at.ensures c.in-Number.is, le-leb (length (drop n s)) 0 (omega (arith, length-drop n s, c.if-next-s.false)), le-leb 1 k c.if-number-lt1.false, le-leb k 2048 (omega arith))

@@ -9,10 +9,10 @@ pub returns-then-next-len : goal.returns-then-next-len
 returns-then-next-len c = waits c.if-next-len.true refl refl
 
 pub returns-then-is_over : goal.returns-then-is_over
-returns-then-is_over c = stops c.if-next-len.false c.if-given-gt0.true (sym c.is_over.ensures ∙ c.if-is_over.true) c.close.ensures
+returns-then-is_over c = stops c.if-next-len.false (omega arith) (sym c.is_over.ensures ∙ c.if-is_over.true) c.close.ensures
 
 pub returns-then-given-gt0 : goal.returns-then-given-gt0
 returns-then-given-gt0 c = continues c.if-next-len.false c.if-given-gt0.true (sym c.is_over.ensures ∙ c.if-is_over.false) refl refl
 
 pub returns : goal.returns
-returns c = ends c.if-next-len.false (omega (arith, c.if-given-gt0.false)) c.close-2.ensures
+returns c = ends c.if-next-len.false (omega arith) c.close-2.ensures
