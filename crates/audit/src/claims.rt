@@ -22,7 +22,7 @@ pub fn claims_fit(
     queue: &mut [u16],
     visited: &mut [u16],
 ) -> bool
-    requires n_nonzero { (0 < n) × (n < 65536) × NoneVisited n visited.old }
+    requires none_visited { (0 < n) × (n < 65536) × NoneVisited n visited.old }
     requires walkable { Walkable (chains n steps from.now in_head.now in_next.now) }
     requires n_in_bounds { (n ≤ length status.now) × (n ≤ length marks.now) × (n ≤ length successor.now) × (n ≤ length queue.old) × (visited_length n ≤ length visited.old) }
     ensures { Answered n (Claims n (into (chains n steps from.now in_head.now in_next.now))
@@ -77,7 +77,7 @@ fn claimed(
     queue: &mut [u16],
     visited: &mut [u16],
 ) -> bool
-    requires n_nonzero { (0 < n) × (n < 65536) × NoneVisited n visited.old }
+    requires none_visited { (0 < n) × (n < 65536) × NoneVisited n visited.old }
     requires walkable { Walkable (chains n steps from.now in_head.now in_next.now) }
     requires n_in_bounds { (n ≤ length status.now) × (n ≤ length marks.now) × (n ≤ length successor.now) × (n ≤ length queue.old) × (visited_length n ≤ length visited.old) }
     ensures { Answered n (Backs n (into (chains n steps from.now in_head.now in_next.now))
@@ -103,7 +103,7 @@ fn gather(
     queue: &mut [u16],
     visited: &mut [u16],
 ) -> Span
-    requires n_nonzero { (0 < n) × (n < 65536) × NoneVisited n visited.old }
+    requires none_visited { (0 < n) × (n < 65536) × NoneVisited n visited.old }
     requires n_in_bounds { (n ≤ length status.now) × (n ≤ length marks.now) × (n ≤ length queue.old) × (visited_length n ≤ length visited.old) }
     ensures { Gathered n n (starts_at verdict status.now marks.now)
         visited.old queue.old visited.new queue.new result }
@@ -131,7 +131,7 @@ fn admit_start(
     queue: &mut [u16],
     visited: &mut [u16],
 ) -> Span
-    requires s_bound { (s < 65536) × (span.len < length queue.old) }
+    requires queue_has_room { (s < 65536) × (span.len < length queue.old) }
     requires s_in_bounds { (s < length status.now) × (s < length marks.now) × HasMark visited.old s }
     ensures { Started (starts_at verdict status.now marks.now s) s
         visited.old queue.old span visited.new queue.new result }

@@ -74,7 +74,7 @@ fn sources_differ(
     in_next: &[u16],
     seen: &mut [u16],
 ) -> bool
-    requires v_lt_n { (v < n) × (n ≤ length seen.old) × (steps ≤ length key.now) × Below n steps from.now × AllBelow n 0 seen.old }
+    requires in_range { (v < n) × (n ≤ length seen.old) × (steps ≤ length key.now) × Below n steps from.now × AllBelow n 0 seen.old }
     requires walkable { Walkable (chains n steps from.now in_head.now in_next.now) }
     ensures { Differ n (Apart base (into (chains n steps from.now in_head.now in_next.now)) key.now v)
         seen.old seen.new result }
@@ -98,7 +98,7 @@ fn note_sources(
     in_next: &[u16],
     seen: &mut [u16],
 ) -> bool
-    requires v_lt_n { (v < n) × (n ≤ length seen.old) × (steps ≤ length key.now) × Below n steps from.now × AllBelow n 0 seen.old }
+    requires in_range { (v < n) × (n ≤ length seen.old) × (steps ≤ length key.now) × Below n steps from.now × AllBelow n 0 seen.old }
     requires walkable { Walkable (chains n steps from.now in_head.now in_next.now) }
     ensures { SourcesNoted base n (into (chains n steps from.now in_head.now in_next.now)) key.now v
         seen.old seen.new result }
@@ -145,7 +145,7 @@ fn clear_sources(
     in_next: &[u16],
     seen: &mut [u16],
 )
-    requires v_lt_n { (v < n) × (n ≤ length seen.old) × Below n steps from.now }
+    requires in_range { (v < n) × (n ≤ length seen.old) × Below n steps from.now }
     requires walkable { Walkable (chains n steps from.now in_head.now in_next.now) }
     requires from_sources { FromSources n (into (chains n steps from.now in_head.now in_next.now)) v seen.old }
     ensures { AllBelow n 0 seen.new × Kept n seen.old seen.new }

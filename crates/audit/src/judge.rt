@@ -26,7 +26,7 @@ pub fn judge(
     in_next: &[u16],
     out_next: &[u16],
 ) -> bool
-    requires n_nonzero { (0 < n) × (n < 65536) × (steps < 65535) }
+    requires counts_fit { (0 < n) × (n < 65536) × (steps < 65535) }
     requires long { Long n n steps (tables_of status.now marks.now from.now to.now key.now successor.now [] in_head.now out_head.now queue.old visited.old in_next.now out_next.now) }
     ensures { (news : List ℕ) → Judged n steps (tables_of status.now marks.now from.now to.now key.now successor.now news in_head.now out_head.now queue.old visited.old in_next.now out_next.now) result queue.new visited.new }
 {

@@ -14,8 +14,8 @@ pub fn list_fits(
     next: &[u16],
     last: &mut [u16],
 ) -> bool
-    requires steps_bound { (steps < 65535) × (steps ≤ length ends.now) × (n ≤ length head.now) × (steps ≤ length next.now) × (n ≤ length last.old) }
-    requires below { Below n steps ends.now }
+    requires steps_in_bounds { (steps < 65535) × (steps ≤ length ends.now) × (n ≤ length head.now) × (steps ≤ length next.now) × (n ≤ length last.old) }
+    requires ends_below { Below n steps ends.now }
     ensures { ListFits n steps ends.now head.now next.now last.old last.new result }
 {
     fill(last, n, 0);
@@ -27,8 +27,8 @@ pub fn list_fits(
 
 // Each next entry leads to the last step before with the same end.
 fn nexts_fit(n: usize, steps: usize, ends: &[u16], next: &[u16], last: &mut [u16]) -> bool
-    requires steps_bound { (steps < 65535) × (steps ≤ length ends.now) × (steps ≤ length next.now) × (n ≤ length last.old) }
-    requires below { Below n steps ends.now × AllBelow n 0 last.old }
+    requires steps_in_bounds { (steps < 65535) × (steps ≤ length ends.now) × (steps ≤ length next.now) × (n ≤ length last.old) }
+    requires ends_below { Below n steps ends.now × AllBelow n 0 last.old }
     ensures { NextsFit n steps ends.now next.now last.old last.new result }
 {
     let mut p = 0;

@@ -11,6 +11,8 @@ ghost use Rattle.draw.specs.Ending.{EndsDrawing};
 
 use picture::{Drawer, PICTURE_ROOM};
 use reader::RECORD_LIMIT;
+use std::env::FillError;
+use std::rt::Env;
 use streams::Served;
 use tables::{MAX_STATES, MAX_VISITED};
 
@@ -26,6 +28,10 @@ struct DrawingEnd {
 
 fn main(rt: HostRuntime) {
     let errors = rt.stderr();
+    // Counted by their bytes, since a word need not be text.
+    let words = (0..usize::MAX)
+        .take_while(|&i| !matches!(rt.arg(i, &mut [0u8; 1]), Err(FillError::NotPresent)))
+        .count();
     if streams::told_usage(
         &rt,
         &errors,
@@ -35,7 +41,7 @@ fn main(rt: HostRuntime) {
           state by its verdict, a terminal one with a double border, each accepted step\n\
           with its key. It takes no arguments. radvoinis-draw <RECORD | dot -Tpng makes\n\
           an image.\n",
-        streams::word_count(&rt),
+        words,
     ) {
         return;
     }

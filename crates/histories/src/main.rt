@@ -6,10 +6,16 @@ ghost use Rattle.enumeration.specs.Lines.{enumeration_text, enumeration_room};
 
 use enumeration::ROOM;
 use reader::Task;
+use std::env::FillError;
+use std::rt::Env;
 use streams::Served;
 
 fn main(rt: HostRuntime) {
     let errors = rt.stderr();
+    // Counted by their bytes, since a word need not be text.
+    let words = (0..usize::MAX)
+        .take_while(|&i| !matches!(rt.arg(i, &mut [0u8; 1]), Err(FillError::NotPresent)))
+        .count();
     if streams::told_usage(
         &rt,
         &errors,
@@ -18,7 +24,7 @@ fn main(rt: HostRuntime) {
           Lists every legal history of at most three updates over two states, with the\n\
           status of each state after it; at the end, how many there are. It reads no input\n\
           and takes no arguments.\n",
-        streams::word_count(&rt),
+        words,
     ) {
         return;
     }

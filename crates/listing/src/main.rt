@@ -11,6 +11,8 @@ ghost use Rattle.listing.specs.Ending.{EndsListing};
 
 use reader::RECORD_LIMIT;
 use report::Lister;
+use std::env::FillError;
+use std::rt::Env;
 use streams::Served;
 use tables::{MAX_STATES, MAX_VISITED};
 
@@ -28,6 +30,10 @@ struct ListingEnd {
 
 fn main(rt: HostRuntime) {
     let errors = rt.stderr();
+    // Counted by their bytes, since a word need not be text.
+    let words = (0..usize::MAX)
+        .take_while(|&i| !matches!(rt.arg(i, &mut [0u8; 1]), Err(FillError::NotPresent)))
+        .count();
     if streams::told_usage(
         &rt,
         &errors,
@@ -36,7 +42,7 @@ fn main(rt: HostRuntime) {
           Reads a record of updates and lists, line by line, the states that an update\n\
           settles as live or dead and the numbers of refusals; at the end, how many states\n\
           have each status. It takes no arguments.\n",
-        streams::word_count(&rt),
+        words,
     ) {
         return;
     }

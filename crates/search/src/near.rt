@@ -21,7 +21,7 @@ pub fn near_escape(
     status: &[u8],
     successor: &[u16],
 ) -> usize
-    requires u_lt_n { u < n }
+    requires in_range { u < n }
     requires walkable { Walkable (chains n steps to.now out_head.now out_next.now) }
     requires n_in_bounds { (n ≤ length status.now) × (n ≤ length successor.now) }
     ensures { Escape n (out_of (chains n steps to.now out_head.now out_next.now)) (toward steps to.now)
@@ -46,7 +46,7 @@ fn escape_within(
     status: &[u8],
     successor: &[u16],
 ) -> usize
-    requires u_lt_n { (u < n) × (most < 65536) }
+    requires in_range { (u < n) × (most < 65536) }
     requires walkable { Walkable (chains n steps to.now out_head.now out_next.now) }
     requires n_in_bounds { (n ≤ length status.now) × (n ≤ length successor.now) }
     ensures { Escape n (out_of (chains n steps to.now out_head.now out_next.now)) (toward steps to.now)

@@ -22,7 +22,7 @@ pub fn escapes(
     queue: &mut [u16],
     visited: &mut [u16],
 ) -> usize
-    requires len_le_n { (len ≤ n) × (n < 65536) × QueuedBelow n queue.old len }
+    requires queued_below { (len ≤ n) × (n < 65536) × QueuedBelow n queue.old len }
     requires walkable { Walkable (chains n steps to.now out_head.now out_next.now) }
     requires n_in_bounds { (n ≤ length status.now) × (n ≤ length successor.old) × (n ≤ length queue.old) × (visited_length n ≤ length visited.old) }
     ensures { Escapes n (out_of (chains n steps to.now out_head.now out_next.now))
@@ -54,7 +54,7 @@ fn escape(
     queue: &mut [u16],
     visited: &mut [u16],
 ) -> usize
-    requires x_lt_n { (x < n) × (n < 65536) × (released + count n (marked visited.old) ≤ n) }
+    requires queue_has_room { (x < n) × (n < 65536) × (released + count n (marked visited.old) ≤ n) }
     requires walkable { Walkable (chains n steps to.now out_head.now out_next.now) }
     requires n_in_bounds { (n ≤ length status.now) × (n ≤ length successor.old) × (n ≤ length queue.old) × (visited_length n ≤ length visited.old) }
     ensures { Tried n (out_of (chains n steps to.now out_head.now out_next.now))
@@ -81,7 +81,7 @@ fn way_out(
     status: &[u8],
     visited: &[u16],
 ) -> usize
-    requires x_lt_n { x < n }
+    requires in_range { x < n }
     requires walkable { Walkable (chains n steps to.now out_head.now out_next.now) }
     requires n_in_bounds { (n ≤ length status.now) × (visited_length n ≤ length visited.now) }
     ensures { FindsOut n (out_of (chains n steps to.now out_head.now out_next.now))
@@ -127,7 +127,7 @@ pub fn rescue(
     queue: &mut [u16],
     visited: &mut [u16],
 ) -> usize
-    requires visited_bound { (len + count n (marked visited.old) ≤ n) × (n < 65536) × QueuedBelow n queue.old len }
+    requires queue_has_room { (len + count n (marked visited.old) ≤ n) × (n < 65536) × QueuedBelow n queue.old len }
     requires walkable { Walkable (chains n steps from.now in_head.now in_next.now) }
     requires n_in_bounds { (n ≤ length successor.old) × (n ≤ length queue.old) × (visited_length n ≤ length visited.old) }
     ensures { Rescues n (into (chains n steps from.now in_head.now in_next.now))
@@ -158,7 +158,7 @@ fn rescue_sources(
     queue: &mut [u16],
     visited: &mut [u16],
 ) -> usize
-    requires visited_bound { (len + count n (marked visited.old) ≤ n) × (n < 65536) × QueuedBelow n queue.old len × Before queue.old len x }
+    requires queue_has_room { (len + count n (marked visited.old) ≤ n) × (n < 65536) × QueuedBelow n queue.old len × Before queue.old len x }
     requires walkable { Walkable (chains n steps from.now in_head.now in_next.now) }
     requires n_in_bounds { (n ≤ length successor.old) × (n ≤ length queue.old) × (visited_length n ≤ length visited.old) }
     ensures releases { Releases n (WayTo (into (chains n steps from.now in_head.now in_next.now)))
@@ -184,7 +184,7 @@ fn rescue_source(
     queue: &mut [u16],
     visited: &mut [u16],
 ) -> usize
-    requires visited_bound { (released + count n (marked visited.old) ≤ n) × (n < 65536) × (p < 65536) × (p < length from.now) }
+    requires queue_has_room { (released + count n (marked visited.old) ≤ n) × (n < 65536) × (p < 65536) × (p < length from.now) }
     requires n_in_bounds { (n ≤ length successor.old) × (n ≤ length queue.old) × (visited_length n ≤ length visited.old) }
     ensures { Pulled n (get_or from.now p 0) p visited.old successor.old queue.old
         visited.new successor.new queue.new released result }

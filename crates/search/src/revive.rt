@@ -23,7 +23,7 @@ pub fn revive(
     visited: &mut [u16],
     in_next: &[u16],
 ) -> usize
-    requires n_le_max_states { (n ≤ max_states) × Queued n visited.old queue.old starts }
+    requires queued { (n ≤ max_states) × Queued n visited.old queue.old starts }
     requires walkable { Walkable (chains n steps from.now in_head.now in_next.now) }
     requires n_in_bounds { (n ≤ length status.old) × (n ≤ length successor.old) × (n ≤ length news.old) × (n ≤ length queue.old) × (visited_length n ≤ length visited.old) }
     ensures { Revives n (into (chains n steps from.now in_head.now in_next.now)) starts (record { status = status.entry.now; successor = successor.old; news = news.old; visited = visited.old; queue = queue.old }) (record { status = status.exit.now; successor = successor.new; news = news.new; visited = visited.new; queue = queue.new }) result }

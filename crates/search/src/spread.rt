@@ -41,7 +41,7 @@ pub fn spread(
     queue: &mut [u16],
     visited: &mut [u16],
 ) -> Span
-    requires n_bound { (n < 65536) × Queued n visited.old queue.old starts }
+    requires queued { (n < 65536) × Queued n visited.old queue.old starts }
     requires walkable { Walkable (chains n steps from.now in_head.now in_next.now) }
     requires n_in_bounds { (n ≤ length status.now) × (n ≤ length successor.now) × (n ≤ length queue.old) × (visited_length n ≤ length visited.old) }
     ensures { Spread n (into (chains n steps from.now in_head.now in_next.now))
@@ -75,7 +75,7 @@ fn offer_sources(
     queue: &mut [u16],
     visited: &mut [u16],
 ) -> Span
-    requires x_lt_n { (x < n) × (n < 65536) × (before.len + unvisited n visited.old ≤ n) }
+    requires queue_has_room { (x < n) × (n < 65536) × (before.len + unvisited n visited.old ≤ n) }
     requires walkable { Walkable (chains n steps from.now in_head.now in_next.now) }
     requires n_in_bounds { (n ≤ length status.now) × (n ≤ length successor.now) × (n ≤ length queue.old) × (visited_length n ≤ length visited.old) }
     ensures offers { Offers n (into (chains n steps from.now in_head.now in_next.now))

@@ -28,9 +28,9 @@ pub fn sweep(
     in_next: &[u16],
     out_next: &[u16],
 ) -> usize
-    requires n_le_max_states { (n ≤ max_states) × Queued n visited.old queue.old starts }
-    requires walkable { Walkable (chains n steps from.now in_head.now in_next.now) }
-    requires walkable_2 { Walkable (chains n steps to.now out_head.now out_next.now) }
+    requires queued { (n ≤ max_states) × Queued n visited.old queue.old starts }
+    requires walkable_into { Walkable (chains n steps from.now in_head.now in_next.now) }
+    requires walkable_out { Walkable (chains n steps to.now out_head.now out_next.now) }
     requires n_in_bounds { (n ≤ length status.old) × (n ≤ length successor.old) × (n ≤ length news.old) × (n ≤ length queue.old) × (visited_length n ≤ length visited.old) }
     ensures { Sweeps n (into (chains n steps from.now in_head.now in_next.now)) (out_of (chains n steps to.now out_head.now out_next.now)) starts (record { status = status.entry.now; successor = successor.old; news = news.old; visited = visited.old; queue = queue.old }) (record { status = status.exit.now; successor = successor.new; news = news.new; visited = visited.new; queue = queue.new }) result }
 {

@@ -36,8 +36,8 @@ pub fn is_listed(
     out_next: &[u16],
 ) -> bool
     requires steps_in_bounds { (steps ≤ length from.now) × (steps ≤ length to.now) × (steps ≤ length key.now) }
-    requires from_bound { (edge.from < 65536) × (edge.to < 65536) }
-    requires from_in_bounds { (edge.from < length out_head.now) × (steps ≤ length out_next.now) × (steps < 65536) }
+    requires ends_fit { (edge.from < 65536) × (edge.to < 65536) }
+    requires chain_in_bounds { (edge.from < length out_head.now) × (steps ≤ length out_next.now) × (steps < 65536) }
     ensures { result ≡ is_listed_in steps from.now to.now key.now edge }
 {
     if near_repeat(edge, steps, from, to, key, out_head, out_next) {
@@ -66,7 +66,7 @@ fn near_repeat(
     out_next: &[u16],
 ) -> bool
     requires has_places { HasPlaces steps from.now to.now key.now }
-    requires from_in_bounds { (edge.from < length out_head.now) × (steps ≤ length out_next.now) × (steps < 65536) }
+    requires chain_in_bounds { (edge.from < length out_head.now) × (steps ≤ length out_next.now) × (steps < 65536) }
     ensures { result ≡ true → is_listed_in steps from.now to.now key.now edge ≡ true }
 {
     let mut at = first(out_head, edge.from, steps);
@@ -87,7 +87,7 @@ fn near_repeat(
 // The first place of an equal step, block by block.
 pub fn find_step(edge: Edge, steps: usize, from: &[u16], to: &[u16], key: &[u8]) -> Place
     requires steps_in_bounds { (steps ≤ length from.now) × (steps ≤ length to.now) × (steps ≤ length key.now) }
-    requires from_bound { (edge.from < 65536) × (edge.to < 65536) }
+    requires ends_fit { (edge.from < 65536) × (edge.to < 65536) }
     ensures { place_of result ≡ first_place steps from.now to.now key.now edge }
 {
     let mut start = 0;
@@ -120,9 +120,9 @@ fn find_in_block(
     to: &[u16],
     key: &[u8],
 ) -> Place
-    requires start_le_end { (start ≤ end) × HasPlaces end from.now to.now key.now }
-    requires from_bound { (edge.from < 65536) × (edge.to < 65536) }
-    requires edge_value { first_place start from.now to.now key.now edge ≡ none }
+    requires block_in_bounds { (start ≤ end) × HasPlaces end from.now to.now key.now }
+    requires ends_fit { (edge.from < 65536) × (edge.to < 65536) }
+    requires none_before { first_place start from.now to.now key.now edge ≡ none }
     ensures { place_of result ≡ first_place end from.now to.now key.now edge }
 {
     if has_pair(edge.from as u16, edge.to as u16, start, end, from, to) {
@@ -149,8 +149,8 @@ fn has_pair(u: u16, v: u16, start: usize, end: usize, from: &[u16], to: &[u16]) 
 
 // The closer look: the first place before end, where there is none before start.
 fn look(edge: Edge, start: usize, end: usize, from: &[u16], to: &[u16], key: &[u8]) -> Place
-    requires start_le_end { (start ≤ end) × HasPlaces end from.now to.now key.now }
-    requires edge_value { first_place start from.now to.now key.now edge ≡ none }
+    requires block_in_bounds { (start ≤ end) × HasPlaces end from.now to.now key.now }
+    requires none_before { first_place start from.now to.now key.now edge ≡ none }
     ensures { place_of result ≡ first_place end from.now to.now key.now edge }
 {
     let mut left = end - start;

@@ -6,7 +6,6 @@ ghost use Rattle.streams.specs.declared.Served.{Served};
 ghost use Rattle.streams.specs.Serving.{Serves};
 
 use reader::Task;
-use std::env::FillError;
 use std::io::Read;
 use std::rt::Env;
 
@@ -31,17 +30,6 @@ impl Served {
             Served::Failed => false,
         }
     }
-}
-
-// How many words the command line has, the program's name among them. They need not be text.
-pub fn word_count(rt: &impl Env) -> usize {
-    let mut word = [0u8; 1];
-    for i in 0..usize::MAX {
-        if matches!(rt.arg(i, &mut word), Err(FillError::NotPresent)) {
-            return i;
-        }
-    }
-    usize::MAX
 }
 
 // Tells the usage where the command line has more words than the program's name, since a program takes no arguments, and answers whether it did. It goes to standard output where it is asked for, by `--help` alone, else to standard error, which is `errors`.

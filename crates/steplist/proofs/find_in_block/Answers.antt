@@ -7,4 +7,4 @@ use Rattle.steplist.proofs.find_in_block.Goals as goal
 pub returns : goal.returns
 returns c =
     let a = c.args in
-    sym (block_none a.from.now a.to.now a.key.now a.edge c.requires.edge_value (c.has_pair.ensures c.if-has_pair.false))
+    sym (block_none a.from.now a.to.now a.key.now a.edge c.requires.none_before (c.has_pair.ensures c.if-has_pair.false))

@@ -13,7 +13,7 @@ loop-start-init c =
     (omega arith, first_none (is_equal_at a.from.now a.to.now a.key.now a.edge))
 
 pub find_in_block-requires : goal.find_in_block-requires
-find_in_block-requires c = record { start_le_end = (omega arith, omega arith); from_bound = c.requires.from_bound; edge_value = c.loop-start.invariant.1 }
+find_in_block-requires c = record { block_in_bounds = (omega arith, omega arith); ends_fit = c.requires.ends_fit; none_before = c.loop-start.invariant.1 }
 
 pub returns-in-At : goal.returns-in-At
 returns-in-At c =

@@ -11,7 +11,7 @@ pub loop-left-init : goal.loop-left-init
 loop-left-init c =
     let a = c.args in
     let e : a.end - (a.end - a.start) ≡ a.start = omega arith in
-    (omega arith, rw e c.requires.edge_value)
+    (omega arith, rw e c.requires.none_before)
 
 pub returns-then-is_equal_at : goal.returns-then-is_equal_at
 returns-then-is_equal_at c =

@@ -8,7 +8,7 @@ use Rattle.audit.proofs.claims.claimed.Goals as goal
 pub spread-requires : goal.spread-requires
 spread-requires c =
     let g = c.gather-found.ensures in
-    record { n_bound = (c.requires.n_nonzero.1, g.queued); walkable = c.requires.walkable; n_in_bounds = (c.requires.n_in_bounds.0, c.requires.n_in_bounds.2, omega (arith, c.requires.n_in_bounds.3, g.queues.size), omega (arith, c.requires.n_in_bounds.4, g.visits.size)) }
+    record { queued = (c.requires.none_visited.1, g.queued); walkable = c.requires.walkable; n_in_bounds = (c.requires.n_in_bounds.0, c.requires.n_in_bounds.2, omega (arith, c.requires.n_in_bounds.3, g.queues.size), omega (arith, c.requires.n_in_bounds.4, g.visits.size)) }
 
 pub all_covered-all-requires : goal.all_covered-all-requires
 all_covered-all-requires c =

@@ -9,7 +9,7 @@ use Rattle.audit.proofs.claims.gather.Goals as goal
 pub loop-s-init : goal.loop-s-init
 loop-s-init c =
     let a = c.args in
-    (omega arith, gathered_none (starts_at a.verdict a.status.now a.marks.now) c.requires.n_nonzero.0 c.requires.n_nonzero.2)
+    (omega arith, gathered_none (starts_at a.verdict a.status.now a.marks.now) c.requires.none_visited.0 c.requires.none_visited.2)
 
 pub admit_start-span-requires : goal.admit_start-span-requires
 admit_start-span-requires c =
@@ -18,7 +18,7 @@ admit_start-span-requires c =
     let h = c.loop-s-test.true in
     let room = gathered_room (starts_at a.verdict a.status.now a.marks.now) g h c.requires.n_in_bounds.3 c.requires.n_in_bounds.2 in
     let mark = has-mark a.n c.loop-s.visited c.loop-s.s h (omega (arith, c.requires.n_in_bounds.3, g.visits.size)) in
-    record { s_bound = (omega arith, omega (arith, room, c.requires.n_in_bounds.2, g.queues.size)); s_in_bounds = (omega arith, omega arith, mark) }
+    record { queue_has_room = (omega arith, omega (arith, room, c.requires.n_in_bounds.2, g.queues.size)); s_in_bounds = (omega arith, omega arith, mark) }
 
 pub overflow_add-s : goal.overflow_add-s
 overflow_add-s c = omega (arith, c.loop-s-test)

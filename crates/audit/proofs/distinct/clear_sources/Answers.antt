@@ -15,12 +15,12 @@ bounds-from-at c = omega (arith, c.loop-at.invariant.walk.inside)
 
 pub offset_bounds-seen-u : goal.offset_bounds-seen-u
 offset_bounds-seen-u c =
-    let p = c.requires.v_lt_n in
+    let p = c.requires.in_range in
     omega (arith, c.wide-u.ensures, clearing_source c.loop-at.invariant c.loop-at-test.true p.2, p.1, c.loop-at.invariant.kept.size, c.well_formed)
 
 pub bounds-seen-u : goal.bounds-seen-u
 bounds-seen-u c =
-    let p = c.requires.v_lt_n in
+    let p = c.requires.in_range in
     omega (arith, c.wide-u.ensures, clearing_source c.loop-at.invariant c.loop-at-test.true p.2, p.1, c.loop-at.invariant.kept.size)
 
 pub after-at-requires : goal.after-at-requires
@@ -31,7 +31,7 @@ loop-at-smaller c = c.after-at.ensures.1
 
 pub loop-at-preserved : goal.loop-at-preserved
 loop-at-preserved c =
-    let p = c.requires.v_lt_n in
+    let p = c.requires.in_range in
     clearing_next c.loop-at.invariant c.loop-at-test.true p.2 p.1 c.wide-u.ensures c.after-at.ensures.0
 
 pub returns : goal.returns

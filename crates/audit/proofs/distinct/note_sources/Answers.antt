@@ -5,7 +5,7 @@ use Rattle.audit.proofs.Differing.{noting_first, noting_source, noting_next, not
 use Rattle.audit.proofs.distinct.note_sources.Goals as goal
 
 pub loop-at-init : goal.loop-at-init
-loop-at-init c = noting_first c.requires.v_lt_n.4 c.first-at.ensures.0
+loop-at-init c = noting_first c.requires.in_range.4 c.first-at.ensures.0
 
 pub offset_bounds-from-p : goal.offset_bounds-from-p
 offset_bounds-from-p c = omega (arith, c.loop-at.invariant.walk.inside)
@@ -18,7 +18,7 @@ bounds-key-p c = omega (arith, c.loop-at.invariant.walk.inside)
 
 pub note-requires : goal.note-requires
 note-requires c =
-    let p = c.requires.v_lt_n in
+    let p = c.requires.in_range in
     omega (arith, c.wide.ensures, noting_source c.loop-at.invariant c.loop-at-test.true p.3, p.1, c.loop-at.invariant.kept.size)
 
 pub after-at-requires : goal.after-at-requires
@@ -29,12 +29,12 @@ loop-at-smaller c = c.after-at.ensures.1
 
 pub loop-at-preserved : goal.loop-at-preserved
 loop-at-preserved c =
-    let p = c.requires.v_lt_n in
+    let p = c.requires.in_range in
     noting_next c.loop-at.invariant c.loop-at-test.true p.3 p.1 c.wide.ensures c.note.ensures c.if-note.true c.after-at.ensures.0
 
 pub returns-else-note : goal.returns-else-note
 returns-else-note c =
-    let p = c.requires.v_lt_n in
+    let p = c.requires.in_range in
     noting_stops c.loop-at.invariant c.loop-at-test.true p.3 c.wide.ensures c.note.ensures c.if-note.false
 
 pub returns : goal.returns

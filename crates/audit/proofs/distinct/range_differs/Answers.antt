@@ -8,7 +8,7 @@ pub loop-v-init : goal.loop-v-init
 loop-v-init c = comparing_first c.requires.n_in_bounds.3
 
 pub sources_differ-requires : goal.sources_differ-requires
-sources_differ-requires c = record { v_lt_n = (c.loop-v-test.true, omega (arith, c.requires.n_in_bounds.1, c.requires.n_in_bounds.0, c.loop-v.invariant.kept.size), c.requires.n_in_bounds.1, c.requires.n_in_bounds.2, c.loop-v.invariant.blank); walkable = c.requires.walkable }
+sources_differ-requires c = record { in_range = (c.loop-v-test.true, omega (arith, c.requires.n_in_bounds.1, c.requires.n_in_bounds.0, c.loop-v.invariant.kept.size), c.requires.n_in_bounds.1, c.requires.n_in_bounds.2, c.loop-v.invariant.blank); walkable = c.requires.walkable }
 
 pub overflow_add-v : goal.overflow_add-v
 overflow_add-v c = omega (arith, c.loop-v-test)

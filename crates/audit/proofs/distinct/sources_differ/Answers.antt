@@ -7,7 +7,7 @@ use Rattle.audit.proofs.distinct.sources_differ.Goals as goal
 pub clear_sources-requires : goal.clear_sources-requires
 clear_sources-requires c =
     let f = c.note_sources.ensures in
-    record { v_lt_n = (c.requires.v_lt_n.0, omega (arith, c.requires.v_lt_n.1, f.kept.size), c.requires.v_lt_n.3); walkable = c.requires.walkable; from_sources = f.noted }
+    record { in_range = (c.requires.in_range.0, omega (arith, c.requires.in_range.1, f.kept.size), c.requires.in_range.3); walkable = c.requires.walkable; from_sources = f.noted }
 
 pub returns-then-note_sources : goal.returns-then-note_sources
 returns-then-note_sources c = sources_differ c.note_sources.ensures c.if-note_sources.true c.clear_sources.ensures

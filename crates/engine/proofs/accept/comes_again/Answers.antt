@@ -14,7 +14,7 @@ is_listed-requires c =
     let r = c.requires.in_range in
     let l = c.requires.steps_in_bounds in
     let w = in_range_as 65536 q r.0 in
-    record { steps_in_bounds = (l.0, l.1, l.2); from_bound = (w.0, w.1); from_in_bounds = ((in_range_as (length c.args.out_head.now) q r.2).0, l.3, l.4) }
+    record { steps_in_bounds = (l.0, l.1, l.2); ends_fit = (w.0, w.1); chain_in_bounds = ((in_range_as (length c.args.out_head.now) q r.2).0, l.3, l.4) }
 
 pub closes_again-requires : goal.closes_again-requires
 closes_again-requires c = source_below (length c.args.marks.now) c.args.update c.requires.in_range.1

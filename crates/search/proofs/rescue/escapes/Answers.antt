@@ -18,14 +18,14 @@ pub escape-released-requires : goal.escape-released-requires
 escape-released-requires c =
     let t = c.loop-at.invariant.0 in
     let d = t.sofar.releases in
-    let b = c.requires.len_le_n.2 c.loop-at.at (omega arith) in
+    let b = c.requires.queued_below.2 c.loop-at.at (omega arith) in
     let e = t.rest c.loop-at.at (omega arith) in
-    record { x_lt_n = (omega (arith, c.wide-x.ensures), c.requires.len_le_n.1, d.room); walkable = c.requires.walkable; n_in_bounds = (c.requires.n_in_bounds.0, omega (arith, c.requires, d.successors.size), omega (arith, c.requires, t.sofar.releases.queues.size), omega (arith, c.requires, d.visits.size)) }
+    record { queue_has_room = (omega (arith, c.wide-x.ensures), c.requires.queued_below.1, d.room); walkable = c.requires.walkable; n_in_bounds = (c.requires.n_in_bounds.0, omega (arith, c.requires, d.successors.size), omega (arith, c.requires, t.sofar.releases.queues.size), omega (arith, c.requires, d.visits.size)) }
 
 pub loop-at-preserved : goal.loop-at-preserved
 loop-at-preserved c =
     let t = c.loop-at.invariant.0 in
-    let b = c.requires.len_le_n.2 c.loop-at.at (omega arith) in
+    let b = c.requires.queued_below.2 c.loop-at.at (omega arith) in
     let e = t.rest c.loop-at.at (omega arith) in
     (trying_more t c.requires.n_in_bounds.3 c.requires.n_in_bounds.1 c.requires.n_in_bounds.2 c.wide-x.result (sym c.wide-x.ensures) (omega (arith, c.wide-x.ensures)) c.escape-released.ensures, omega arith)
 

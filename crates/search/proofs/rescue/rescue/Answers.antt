@@ -6,7 +6,7 @@ use Rattle.search.proofs.Releasing.{saving_none, saving_more, saving_end}
 use Rattle.search.proofs.rescue.rescue.Goals as goal
 
 pub loop-at-init : goal.loop-at-init
-loop-at-init c = saving_none c.requires.visited_bound.0 c.requires.visited_bound.2
+loop-at-init c = saving_none c.requires.queue_has_room.0 c.requires.queue_has_room.2
 
 pub offset_bounds-queue-at : goal.offset_bounds-queue-at
 offset_bounds-queue-at c = omega (arith, c.loop-at.invariant.part.room)
@@ -20,7 +20,7 @@ wide-x-requires c = tt
 pub rescue_sources-released-requires : goal.rescue_sources-released-requires
 rescue_sources-released-requires c =
     let part = c.loop-at.invariant.part in
-    record { visited_bound = (part.room, c.requires.visited_bound.1, c.loop-at.invariant.below, (c.loop-at.at, c.loop-at-test.true, sym c.wide-x.ensures)); walkable = c.requires.walkable; n_in_bounds = (omega (arith, c.requires, part.successors.size), omega (arith, c.requires, part.queues.size), omega (arith, c.requires, part.visits.size)) }
+    record { queue_has_room = (part.room, c.requires.queue_has_room.1, c.loop-at.invariant.below, (c.loop-at.at, c.loop-at-test.true, sym c.wide-x.ensures)); walkable = c.requires.walkable; n_in_bounds = (omega (arith, c.requires, part.successors.size), omega (arith, c.requires, part.queues.size), omega (arith, c.requires, part.visits.size)) }
 
 pub loop-at-smaller : goal.loop-at-smaller
 loop-at-smaller c = omega (arith, c.loop-at.invariant.part.room, c.loop-at-test.true)

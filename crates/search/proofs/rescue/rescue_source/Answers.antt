@@ -17,7 +17,7 @@ pub release-requires : goal.release-requires
 release-requires c =
     let a = c.args in
     let range = c.if-n-y.false in
-    let h = room_left a.n a.visited.now a.successor.now a.queue.now a.released c.requires.visited_bound.0 c.wide-y.result 0 range (sym c.is_visited.ensures ∙ c.if-is_visited.true) c.requires.n_in_bounds.2 c.requires.n_in_bounds.0 c.requires.n_in_bounds.1 in
+    let h = room_left a.n a.visited.now a.successor.now a.queue.now a.released c.requires.queue_has_room.0 c.wide-y.result 0 range (sym c.is_visited.ensures ∙ c.if-is_visited.true) c.requires.n_in_bounds.2 c.requires.n_in_bounds.0 c.requires.n_in_bounds.1 in
     (omega arith, omega arith, omega arith, has-mark a.n a.visited.now c.wide-y.result range c.requires.n_in_bounds.2, omega arith)
 
 pub returns-then-is_visited : goal.returns-then-is_visited

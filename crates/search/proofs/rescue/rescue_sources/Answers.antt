@@ -6,12 +6,12 @@ use Rattle.search.proofs.rescue.rescue_sources.Goals as goal
 
 pub first-p-requires : goal.first-p-requires
 first-p-requires c =
-    let (i, h, e) = c.requires.visited_bound.3 in
-    let b = c.requires.visited_bound.2 i h in
+    let (i, h, e) = c.requires.queue_has_room.3 in
+    let b = c.requires.queue_has_room.2 i h in
     omega arith
 
 pub loop-p-init : goal.loop-p-init
-loop-p-init c = pulling_first c.requires.visited_bound.0 c.first-p.ensures.0
+loop-p-init c = pulling_first c.requires.queue_has_room.0 c.first-p.ensures.0
 
 pub rescue_source-released-requires : goal.rescue_source-released-requires
 rescue_source-released-requires c =
@@ -20,10 +20,10 @@ rescue_source-released-requires c =
     let b = part.successors.size in
     let d = part.queues.size in
     let w = c.loop-p.invariant.walk.inside in
-    record { visited_bound = (part.room, c.requires.visited_bound.1, omega arith, omega arith); n_in_bounds = (omega arith, omega arith, omega arith) }
+    record { queue_has_room = (part.room, c.requires.queue_has_room.1, omega arith, omega arith); n_in_bounds = (omega arith, omega arith, omega arith) }
 
 pub loop-p-preserved : goal.loop-p-preserved
-loop-p-preserved c = pulling_more c.loop-p.invariant c.requires.visited_bound.3 c.requires.n_in_bounds.2 c.requires.n_in_bounds.0 c.requires.n_in_bounds.1 c.loop-p-test.true c.after-p.ensures.0 c.rescue_source-released.ensures
+loop-p-preserved c = pulling_more c.loop-p.invariant c.requires.queue_has_room.3 c.requires.n_in_bounds.2 c.requires.n_in_bounds.0 c.requires.n_in_bounds.1 c.loop-p-test.true c.after-p.ensures.0 c.rescue_source-released.ensures
 
 pub shape_of-successor : goal.shape_of-successor
 shape_of-successor c = c.loop-p.invariant.part.successors.size

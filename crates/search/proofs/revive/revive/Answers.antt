@@ -11,7 +11,7 @@ settle-requires c =
     let d = c.spread-span.ensures in
     let h = d.queued.top in
     let m = visited_more (c.spread-span.result.high + 1) c.args.n (omega arith) in
-    (omega (arith, h, l), omega (arith, h, l), omega (arith, h, l), omega (arith, m, l, d.visits.size), omega (arith, h, c.requires.n_le_max_states.0))
+    (omega (arith, h, l), omega (arith, h, l), omega (arith, h, l), omega (arith, m, l, d.visits.size), omega (arith, h, c.requires.queued.0))
 
 pub shape_of-status : goal.shape_of-status
 shape_of-status c = c.settle.ensures.statuses

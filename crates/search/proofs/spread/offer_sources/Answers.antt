@@ -5,7 +5,7 @@ use Rattle.search.proofs.Offering.{offer_first, offer_next, offer_last}
 use Rattle.search.proofs.spread.offer_sources.Goals as goal
 
 pub loop-p-init : goal.loop-p-init
-loop-p-init c = offer_first c.requires.x_lt_n.2 c.first-p.ensures.0
+loop-p-init c = offer_first c.requires.queue_has_room.2 c.first-p.ensures.0
 
 pub offer-span-requires : goal.offer-span-requires
 offer-span-requires c =

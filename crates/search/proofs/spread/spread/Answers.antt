@@ -6,10 +6,10 @@ use Rattle.search.proofs.Spreading.{rounds_none, rounds_more, spread_ends}
 use Rattle.search.proofs.spread.spread.Goals as goal
 
 pub loop-at-init : goal.loop-at-init
-loop-at-init c = rounds_none c.requires.n_bound.1
+loop-at-init c = rounds_none c.requires.queued.1
 
 pub offset_bounds-queue-at : goal.offset_bounds-queue-at
-offset_bounds-queue-at c = omega (arith, c.loop-at.invariant, c.requires.n_bound.0)
+offset_bounds-queue-at c = omega (arith, c.loop-at.invariant, c.requires.queued.0)
 
 pub bounds-queue-at : goal.bounds-queue-at
 bounds-queue-at c = omega (arith, c.loop-at.invariant, c.requires.n_in_bounds)
@@ -19,10 +19,10 @@ offer_sources-span-requires c =
     let r = c.loop-at.invariant in
     let x = (r.sofar.only c.loop-at.at c.loop-at-test.true).1 in
     let e = c.wide-x.ensures in
-    record { x_lt_n = (omega arith, c.requires.n_bound.0, r.room); walkable = c.requires.walkable; n_in_bounds = (c.requires.n_in_bounds.0, c.requires.n_in_bounds.1, omega (arith, r.queues, c.requires.n_in_bounds), omega (arith, r.visits, c.requires.n_in_bounds)) }
+    record { queue_has_room = (omega arith, c.requires.queued.0, r.room); walkable = c.requires.walkable; n_in_bounds = (c.requires.n_in_bounds.0, c.requires.n_in_bounds.1, omega (arith, r.queues, c.requires.n_in_bounds), omega (arith, r.visits, c.requires.n_in_bounds)) }
 
 pub overflow_add-at : goal.overflow_add-at
-overflow_add-at c = omega (arith, c.loop-at.invariant, c.requires.n_bound.0, c.loop-at-test)
+overflow_add-at c = omega (arith, c.loop-at.invariant, c.requires.queued.0, c.loop-at-test)
 
 pub loop-at-smaller : goal.loop-at-smaller
 loop-at-smaller c = omega (arith, c.loop-at.invariant, c.loop-at-test)

@@ -9,20 +9,20 @@ use Rattle.search.proofs.sweep.sweep.Goals as goal
 pub spread-span-requires : goal.spread-span-requires
 spread-span-requires c =
     let l = c.requires.n_in_bounds in
-    record { n_bound = (omega (arith, c.requires.n_le_max_states.0), c.requires.n_le_max_states.1); walkable = c.requires.walkable; n_in_bounds = (l.0, l.1, l.3, l.4) }
+    record { queued = (omega (arith, c.requires.queued.0), c.requires.queued.1); walkable = c.requires.walkable_into; n_in_bounds = (l.0, l.1, l.3, l.4) }
 
 pub escapes-released-requires : goal.escapes-released-requires
 escapes-released-requires c =
     let l = c.requires.n_in_bounds in
     let d = c.spread-span.ensures in
-    record { len_le_n = (omega (arith, d.queued.room), omega (arith, c.requires.n_le_max_states.0), d.queued.inside); walkable = c.requires.walkable_2; n_in_bounds = (l.0, l.1, rw d.queues.size l.3, rw d.visits.size l.4) }
+    record { queued_below = (omega (arith, d.queued.room), omega (arith, c.requires.queued.0), d.queued.inside); walkable = c.requires.walkable_out; n_in_bounds = (l.0, l.1, rw d.queues.size l.3, rw d.visits.size l.4) }
 
 pub rescue-requires : goal.rescue-requires
 rescue-requires c =
     let l = c.requires.n_in_bounds in
     let d = c.spread-span.ensures in
     let r = c.escapes-released.ensures.releases in
-    record { visited_bound = (r.room, omega (arith, c.requires.n_le_max_states.0), λ j h. (r.front j (omega arith) h).0); walkable = c.requires.walkable; n_in_bounds = (rw r.successors.size l.1, rw (r.queues.size, d.queues.size) l.3, rw (r.visits.size, d.visits.size) l.4) }
+    record { queue_has_room = (r.room, omega (arith, c.requires.queued.0), λ j h. (r.front j (omega arith) h).0); walkable = c.requires.walkable_into; n_in_bounds = (rw r.successors.size l.1, rw (r.queues.size, d.queues.size) l.3, rw (r.visits.size, d.visits.size) l.4) }
 
 pub settle-requires : goal.settle-requires
 settle-requires c =
@@ -32,7 +32,7 @@ settle-requires c =
     let y = c.rescue.ensures.releases in
     let h = d.queued.top in
     let m = visited_more (c.spread-span.result.high + 1) c.args.n (omega arith) in
-    (omega (arith, h, l), omega (arith, h, l, y.successors.size, x.successors.size), omega (arith, h, l), omega (arith, m, l, y.visits.size, x.visits.size, d.visits.size), omega (arith, h, c.requires.n_le_max_states.0))
+    (omega (arith, h, l), omega (arith, h, l, y.successors.size, x.successors.size), omega (arith, h, l), omega (arith, m, l, y.visits.size, x.visits.size, d.visits.size), omega (arith, h, c.requires.queued.0))
 
 pub shape_of-status : goal.shape_of-status
 shape_of-status c = c.settle.ensures.statuses
