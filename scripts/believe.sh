@@ -53,26 +53,28 @@ table() {
     row "as on the earlier work tables" engine/Matching tables/Fitting tables/Earlier
     row "the twelve examples" gid/Examples
     row "dead in two forms" gid/Verdicts
-    row '`Engine::update`' engine/Promise
+    row '`Engine::update`' engine/Promise tables/Lending
     row '`Graph::status`' tables/Refused
     row '`steplist::find_step`' steplist/Places tables/Listing
     row '`totals::count`' totals/Counting
     row '`audit`' audit/Audited
     row '`Splitter`, `Line`' record/Splitting record/Items
-    row '`reader::open`' reader/Opening
-    row '`reader::read`' reader/Reading
-    row '`Reader::advance`' reader/Advancing
+    row '`reader::open`' reader/Opening tables/Lending
+    row '`reader::read`' reader/Reading tables/Lending
+    row '`Reader::advance`' reader/Advancing tables/Lending
+    row '`Reader::{idle, part_of, wants_more}`' reader/Pieces record/Splitting
     row '`writer::write`' writer/Answering
     row "the round trip" writer/Answering writer/Rereading tables/Fitting
-    row '`report::{begin, list}`, call by call' report/Lister
+    row '`Lister::{begin, list}`, call by call' report/Lister tables/Lending
     row "the listing of an input" report/Progress report/Listing
-    row '`picture::{begin, draw}`, call by call' picture/Drawer
+    row '`Drawer::{begin, draw}`, call by call' picture/Drawer tables/Lending
     row "the picture of an input" picture/Progress picture/Picture
     row '`enumeration::enumerate`' enumeration/Lines
     row "the small histories, which and in which order" enumeration/Small enumeration/Ranking enumeration/Counting
     row "a small history, sent to the engine" enumeration/Small enumeration/Sending
-    row '`streams::serve`' streams/Serving
-    row '`query::status_after`' query/Answering
+    row '`Streams::serve`' streams/Serving
+    row '`Streams::drive`' streams/Driving tables/Lending
+    row '`query::status_after`' query/Answering tables/Lending
     row '`radvoinis_update`, `radvoinis_audit`' capi/Calls
     row '`radvoinis_state_status`' capi/Calls tables/Refused
     row '`radvoinis_write`' capi/Calls writer/Answering

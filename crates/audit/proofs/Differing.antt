@@ -9,24 +9,22 @@ use native.Mathlib.Omega.{arith}
 use native.Mathlib.Decide.{ℕ_discrete, dec_lt}
 use lib.ListN.{length, get_or, set}
 use lib.Seq.{get_or-set_same, get_or-set_other}
-use borrow.Author.Count.{below_more}
 use borrow.Author.Tests.{leb-true}
-use Rattle.gid.specs.Systems.{Arcs}
 use Rattle.gid.specs.Refusals.{max_key}
 use Rattle.tables.specs.Bits.{has_bit, with_bit}
 use Rattle.tables.specs.Fitting.{AllBelow}
-use Rattle.tables.specs.Keeping.{Kept, filled}
+use Rattle.tables.specs.Keeping.{Kept}
 use Rattle.tables.specs.Listing.{Distinct}
 use Rattle.tables.specs.Work.{ListRule}
 use Rattle.tables.proofs.BitLaws.{bit_same, bit_other, bit_grows, bit_none}
 use Rattle.tables.proofs.Keeping.{kept_none, kept_trans, kept_set}
-use Rattle.adjacency.specs.Walks.{first_at, next_at, Meets, Linked}
+use Rattle.std.specs.Prelude.{Some}
+use Rattle.adjacency.specs.Walks.{next_at, Standing, Turn, Starts, Linked}
 use Rattle.adjacency.proofs.Walks.{clamp_below, meets_step, meets_inside, linked}
 use Rattle.search.specs.Spreading.{Chains, chains, into}
-use Rattle.search.proofs.Walking.{Walking, walk_first, walk_here, walk_next, walk_end, walk_done, linked_inside}
+use Rattle.search.proofs.Walking.{Walking, walk_first, walk_here, walk_next, walk_done, linked_inside}
 use Rattle.audit.specs.Facts.{All, key_fits}
-use Rattle.audit.specs.Parts.{Below, KeyIn, Noted, outside, again, new, Apart, ApartAll, ApartKeys, FromSources, SourcesNoted, Differ}
-use Rattle.audit.proofs.Chaining.{emptied}
+use Rattle.audit.specs.Parts.{Below, KeyIn, Noted, outside, again, new, ApartAll, ApartKeys, FromSources, SourcesNoted, Differ}
 
 -- An entry after a store at u: the value that was stored, or as it was.
 stored : (seen : List ℕ) (u x w : ℕ) → u < length seen → ((w ≡ u) × (get_or (set seen u x) w 0 ≡ x)) ⊎ ((w ≡ u → ⊥) × (get_or (set seen u x) w 0 ≡ get_or seen w 0))
@@ -41,19 +39,19 @@ abbrev MetAt : Chains → ℕ → ℕ → ℕ → ℕ → Type 0
 MetAt c v at u q = (at ≤ q) × into c u q v
 
 -- Each is noted, no two are alike, and nothing else is noted.
-pub record Noting (base : ℕ) (c : Chains) (key : List ℕ) (v : ℕ) (seen₀ seen : List ℕ) (at : ℕ) : Type 0 where
-  pub walk : Walking c.head c.next c.m v (λ i. at ≤ i) at
-  pub apart : (u p q : ℕ) → MetAt c v at u p → p < q → into c u q v → get_or key p 0 ≡ get_or key q 0 → KeyIn base (get_or key p 0) → ⊥
-  pub bits : (u q : ℕ) → MetAt c v at u q → KeyIn base (get_or key q 0) → has_bit (get_or key q 0 - base) (get_or seen u 0) ≡ true
-  pub only : (u k : ℕ) → u < c.n → has_bit k (get_or seen u 0) ≡ true → (q : ℕ) × MetAt c v at u q × (get_or key q 0 ≡ base + k)
+pub record Noting (base : ℕ) (c : Chains) (key : List ℕ) (v : ℕ) (seen₀ seen : List ℕ) (w : Standing) : Type 0 where
+  pub walk : Walking c.head c.next c.m v (λ i. w.at ≤ i) w
+  pub apart : (u p q : ℕ) → MetAt c v w.at u p → p < q → into c u q v → get_or key p 0 ≡ get_or key q 0 → KeyIn base (get_or key p 0) → ⊥
+  pub bits : (u q : ℕ) → MetAt c v w.at u q → KeyIn base (get_or key q 0) → has_bit (get_or key q 0 - base) (get_or seen u 0) ≡ true
+  pub only : (u k : ℕ) → u < c.n → has_bit k (get_or seen u 0) ≡ true → (q : ℕ) × MetAt c v w.at u q × (get_or key q 0 ≡ base + k)
   pub sources : FromSources c.n (into c) v seen
   pub kept : Kept c.n seen₀ seen
 
 module _ {base : ℕ} {c : Chains} {key : List ℕ} {v : ℕ} {seen₀ : List ℕ} where
-  pub noting_first : {at : ℕ} → AllBelow c.n 0 seen₀ → at ≡ first_at c.head c.m v → Noting base c key v seen₀ seen₀ at
-  noting_first {at} z e =
+  pub noting_first : {w : Standing} → AllBelow c.n 0 seen₀ → Starts c.head c.next c.m v w → Noting base c key v seen₀ seen₀ w
+  noting_first {w} z s =
       record {
-        walk = walk_first e;
+        walk = walk_first s;
         apart = λ u p q m. absurd (past m);
         bits = λ u q m. absurd (past m);
         only = λ u k h b. absurd (false≢true (sym (bit_none k) ∙ rw (z u h) at b));
@@ -62,49 +60,46 @@ module _ {base : ℕ} {c : Chains} {key : List ℕ} {v : ℕ} {seen₀ : List �
       }
     where
       -- what it meets is before where it stands
-      past : {u q : ℕ} → MetAt c v at u q → ⊥
-      past m = omega (arith, m.0, meets_inside m.1.0, e)
+      past : {u q : ℕ} → MetAt c v w.at u q → ⊥
+      past m = omega (arith, m.0, meets_inside m.1.0, s.0)
 
-  module _ {seen : List ℕ} {at : ℕ} (w : Noting base c key v seen₀ seen at) (some : 0 < at) (ends : Below c.n c.m c.ends) where
-    abbrev p : ℕ
-    p = at - 1
-
+  module _ {seen : List ℕ} {w w' : Standing} (o : Noting base c key v seen₀ seen w) (p : ℕ) (turn : Turn w (Some p) w') (ends : Below c.n c.m c.ends) where
     abbrev u : ℕ
     u = get_or c.ends p 0
 
     here : into c u p v
-    here = (walk_here w.walk some, refl)
+    here = (walk_here o.walk p turn, refl)
 
     pub noting_source : u < c.n
     noting_source = ends p (linked_inside c.head c.next c.m v here.0)
 
-    module _ {at' : ℕ} (e : at' ≡ next_at c.next at) (long : c.n ≤ length seen₀) where
-      less : at' < at
-      less = rw e (clamp_below (get_or c.next (at - 1) 0) at some)
+    less : w'.at < w.at
+    less = let l = clamp_below (get_or w.next (w.at - 1) 0) w.at (omega (arith, turn.0)) in omega (arith, turn.1)
 
+    module _ (long : c.n ≤ length seen₀) where
       -- what it has met after the step where it stands is that step, or was met before
-      earlier : {x q : ℕ} → MetAt c v at' x q → (q ≡ p) ⊎ MetAt c v at x q
-      earlier {x} {q} (l, a) = ⊎_elim (λ d. inr (d, a)) (λ m. ⊎_elim inl (λ k. absurd (omega (arith, l, e, meets_inside k))) (behind m)) (w.walk.rest q a.0)
+      earlier : {x q : ℕ} → MetAt c v w'.at x q → (q ≡ p) ⊎ MetAt c v w.at x q
+      earlier {x} {q} (l, a) = ⊎_elim (λ d. inr (d, a)) (λ m. ⊎_elim inl (λ k. absurd (omega (arith, l, there, meets_inside k))) (meets_step (rw place at m))) (o.walk.rest q a.0)
         where
-          one : at ≡ suc p
-          one = omega arith
+          place : w.at ≡ suc p
+          place = omega (arith, turn.0)
 
-          behind : Meets c.next q at → (q ≡ p) ⊎ Meets c.next q (next_at c.next at)
-          behind m = rw (← one) at (meets_step (rw one at m))
+          there : w'.at ≡ next_at c.next (suc p)
+          there = rw (← place, ← o.walk.goes_by) turn.1
 
-      goes : Walking c.head c.next c.m v (λ i. at' ≤ i) at'
-      goes = walk_next (walk_done w.walk (λ i d. omega (arith, less))) some e (omega (arith, less))
+      goes : Walking c.head c.next c.m v (λ i. w'.at ≤ i) w'
+      goes = walk_next (walk_done o.walk (λ i d. omega (arith, less))) p turn (omega (arith, less, turn.0))
 
       -- The step is passed over: its key is not in the range.
-      noting_passed : (KeyIn base (get_or key p 0) → ⊥) → Noting base c key v seen₀ seen at'
-      noting_passed o =
+      noting_passed : (KeyIn base (get_or key p 0) → ⊥) → Noting base c key v seen₀ seen w'
+      noting_passed out =
           record {
             walk = goes;
-            apart = λ x i j m l a k r. ⊎_elim (λ z. o (rw z at r)) (λ m'. w.apart x i j m' l a k r) (earlier m);
-            bits = λ x j m r. ⊎_elim (λ z. absurd (o (rw z at r))) (λ m'. w.bits x j m' r) (earlier m);
-            only = λ x k h b. let q = w.only x k h b in (q.0, (omega (arith, q.1.0, less), q.1.1), q.2);
-            sources = w.sources;
-            kept = w.kept;
+            apart = λ x i j m l a k r. ⊎_elim (λ z. out (rw z at r)) (λ m'. o.apart x i j m' l a k r) (earlier m);
+            bits = λ x j m r. ⊎_elim (λ z. absurd (out (rw z at r))) (λ m'. o.bits x j m' r) (earlier m);
+            only = λ x k h b. let q = o.only x k h b in (q.0, (omega (arith, q.1.0, less), q.1.1), q.2);
+            sources = o.sources;
+            kept = o.kept;
           }
 
       -- It is noted, and no step like it was.
@@ -116,7 +111,7 @@ module _ {base : ℕ} {c : Chains} {key : List ℕ} {v : ℕ} {seen₀ : List �
         seen' = set seen u (with_bit bit (get_or seen u 0))
 
         at_store : (x : ℕ) → ((x ≡ u) × (get_or seen' x 0 ≡ with_bit bit (get_or seen u 0))) ⊎ ((x ≡ u → ⊥) × (get_or seen' x 0 ≡ get_or seen x 0))
-        at_store x = stored seen u (with_bit bit (get_or seen u 0)) x (omega (arith, noting_source, long, w.kept.size))
+        at_store x = stored seen u (with_bit bit (get_or seen u 0)) x (omega (arith, noting_source, long, o.kept.size))
 
         grown : (x k : ℕ) → has_bit k (get_or seen x 0) ≡ true → has_bit k (get_or seen' x 0) ≡ true
         grown x k b = ⊎_elim (λ z. rw z.1 (bit_grows k bit (get_or seen u 0) (rw z.0 at b))) (λ z. rw z.1 b) (at_store x)
@@ -130,105 +125,72 @@ module _ {base : ℕ} {c : Chains} {key : List ℕ} {v : ℕ} {seen₀ : List �
 
         alike : (x i j : ℕ) → i ≡ p → into c x i v → i < j → into c x j v → get_or key i 0 ≡ get_or key j 0 → KeyIn base (get_or key i 0) → ⊥
         alike x i j z m l a k s =
-            let b = w.bits x j (omega (arith, l, z), a) (rw k at s) in
+            let b = o.bits x j (omega (arith, l, z), a) (rw k at s) in
             let y : get_or key j 0 ≡ get_or key p 0 = sym k ∙ ap (λ (q : ℕ). get_or key q 0) z in
             false≢true (sym f ∙ rw (y, from_here z m) at b)
 
-        which : (x k : ℕ) → x < c.n → has_bit k (get_or seen' x 0) ≡ true → (q : ℕ) × MetAt c v at' x q × (get_or key q 0 ≡ base + k)
-        which x k h b = ⊎_elim (λ z. rw z.0 (mine (ℕ_discrete k bit) (rw z.1 at b))) (λ z. older (w.only x k h (rw z.1 at b))) (at_store x)
+        which : (x k : ℕ) → x < c.n → has_bit k (get_or seen' x 0) ≡ true → (q : ℕ) × MetAt c v w'.at x q × (get_or key q 0 ≡ base + k)
+        which x k h b = ⊎_elim (λ z. rw z.0 (mine (ℕ_discrete k bit) (rw z.1 at b))) (λ z. older (o.only x k h (rw z.1 at b))) (at_store x)
           where
-            older : {x : ℕ} → (q : ℕ) × MetAt c v at x q × (get_or key q 0 ≡ base + k) → (q : ℕ) × MetAt c v at' x q × (get_or key q 0 ≡ base + k)
+            older : {x : ℕ} → (q : ℕ) × MetAt c v w.at x q × (get_or key q 0 ≡ base + k) → (q : ℕ) × MetAt c v w'.at x q × (get_or key q 0 ≡ base + k)
             older (q, (l, a), y) = (q, (omega (arith, l, less), a), y)
 
-            mine : Dec (k ≡ bit) → has_bit k (with_bit bit (get_or seen u 0)) ≡ true → (q : ℕ) × MetAt c v at' u q × (get_or key q 0 ≡ base + k)
+            mine : Dec (k ≡ bit) → has_bit k (with_bit bit (get_or seen u 0)) ≡ true → (q : ℕ) × MetAt c v w'.at u q × (get_or key q 0 ≡ base + k)
             mine (yes y) q = (p, (omega (arith, less), here), omega (arith, r, y))
-            mine (no d) q = older (w.only u k noting_source (sym (bit_other k bit (get_or seen u 0) d) ∙ q))
+            mine (no d) q = older (o.only u k noting_source (sym (bit_other k bit (get_or seen u 0) d) ∙ q))
 
-        noting_new : Noting base c key v seen₀ seen' at'
+        noting_new : Noting base c key v seen₀ seen' w'
         noting_new =
             record {
               walk = goes;
-              apart = λ x i j m l a k s. ⊎_elim (λ z. alike x i j z m.1 l a k s) (λ m'. w.apart x i j m' l a k s) (earlier m);
-              bits = λ x j m s. ⊎_elim (λ z. noted x j z m.1) (λ m'. grown x (get_or key j 0 - base) (w.bits x j m' s)) (earlier m);
+              apart = λ x i j m l a k s. ⊎_elim (λ z. alike x i j z m.1 l a k s) (λ m'. o.apart x i j m' l a k s) (earlier m);
+              bits = λ x j m s. ⊎_elim (λ z. noted x j z m.1) (λ m'. grown x (get_or key j 0 - base) (o.bits x j m' s)) (earlier m);
               only = which;
-              sources = λ x h d. ⊎_elim (λ z. (p, rw z.0 here)) (λ z. w.sources x h (λ y. d (z.1 ∙ y))) (at_store x);
-              kept = kept_trans w.kept (kept_set c.n seen u (with_bit bit (get_or seen u 0)) noting_source);
+              sources = λ x h d. ⊎_elim (λ z. (p, rw z.0 here)) (λ z. o.sources x h (λ y. d (z.1 ∙ y))) (at_store x);
+              kept = kept_trans o.kept (kept_set c.n seen u (with_bit bit (get_or seen u 0)) noting_source);
             }
 
-    pub noting_next : {x at' : ℕ} {seen' : List ℕ} {r : Bool} → c.n ≤ length seen₀ → x ≡ get_or c.ends (at - 1) 0 → Noted base x (get_or key (at - 1) 0) seen seen' r → r ≡ true → at' ≡ next_at c.next at → Noting base c key v seen₀ seen' at'
-    noting_next l z (outside a o s) t e = rw s (noting_passed e l o)
-    noting_next l z (again a k b s) t e = absurd (false≢true (sym a ∙ t))
-    noting_next l z (new a k b s) t e = rw (s, z) (noting_new e l k (rw z at b))
+    pub noting_next : {x : ℕ} {seen' : List ℕ} {r : Bool} → c.n ≤ length seen₀ → x ≡ get_or c.ends p 0 → Noted base x (get_or key p 0) seen seen' r → r ≡ true → Noting base c key v seen₀ seen' w'
+    noting_next l z (outside a k s) t = rw s (noting_passed l k)
+    noting_next l z (again a k b s) t = absurd (false≢true (sym a ∙ t))
+    noting_next l z (new a k b s) t = rw (s, z) (noting_new l k (rw z at b))
 
     -- A step with the bit of one before is its equal.
-    pub noting_stops : {x : ℕ} {seen' : List ℕ} {r : Bool} → x ≡ get_or c.ends (at - 1) 0 → Noted base x (get_or key (at - 1) 0) seen seen' r → r ≡ false → SourcesNoted base c.n (into c) key v seen₀ seen' false
-    noting_stops z (outside a o s) t = absurd (false≢true (sym t ∙ a))
+    pub noting_stops : {x : ℕ} {seen' : List ℕ} {r : Bool} → x ≡ get_or c.ends p 0 → Noted base x (get_or key p 0) seen seen' r → r ≡ false → SourcesNoted base c.n (into c) key v seen₀ seen' false
+    noting_stops z (outside a k s) t = absurd (false≢true (sym t ∙ a))
     noting_stops z (new a k b s) t = absurd (false≢true (sym t ∙ a))
     noting_stops z (again a k b s) t =
-        let q = w.only u (get_or key p 0 - base) noting_source (rw z at b) in
+        let q = o.only u (get_or key p 0 - base) noting_source (rw z at b) in
         record {
-          exact = (λ y. absurd (false≢true y), λ f. absurd (f u p q.0 (omega (arith, q.1.0)) here q.1.1 (omega (arith, q.2, k)) k));
-          noted = rw s w.sources;
-          kept = rw s w.kept;
+          exact = (λ y. absurd (false≢true y), λ f. absurd (f u p q.0 (omega (arith, q.1.0, turn.0)) here q.1.1 (omega (arith, q.2, k)) k));
+          noted = rw s o.sources;
+          kept = rw s o.kept;
         }
 
-  pub noting_ends : {seen : List ℕ} {at : ℕ} → Noting base c key v seen₀ seen at → at ≤ 0 → SourcesNoted base c.n (into c) key v seen₀ seen true
-  noting_ends w h =
-      record {
-        exact = (λ y u p q l a b k r. w.apart u p q (omega arith, a) l b k r, λ y. refl);
-        noted = w.sources;
-        kept = w.kept;
-      }
-
 -- The walk that clears what is noted: the sources of the steps that it met are clear.
-pub record Clearing (c : Chains) (v : ℕ) (seen₀ seen : List ℕ) (at : ℕ) : Type 0 where
-  pub walk : Walking c.head c.next c.m v (λ i. get_or seen (get_or c.ends i 0) 0 ≡ 0) at
+pub record Clearing (c : Chains) (v : ℕ) (seen₀ seen : List ℕ) (w : Standing) : Type 0 where
+  pub walk : Walking c.head c.next c.m v (λ i. get_or seen (get_or c.ends i 0) 0 ≡ 0) w
   pub sources : FromSources c.n (into c) v seen
   pub kept : Kept c.n seen₀ seen
 
 module _ {c : Chains} {v : ℕ} {seen₀ : List ℕ} where
-  pub clearing_first : {at : ℕ} → FromSources c.n (into c) v seen₀ → at ≡ first_at c.head c.m v → Clearing c v seen₀ seen₀ at
-  clearing_first s e = record { walk = walk_first e; sources = s; kept = kept_none c.n seen₀ }
+  module _ {seen : List ℕ} {w w' : Standing} (o : Clearing c v seen₀ seen w) (p : ℕ) (turn : Turn w (Some p) w') (ends : Below c.n c.m c.ends) where
+    pub clearing_source : get_or c.ends p 0 < c.n
+    clearing_source = ends p (linked_inside c.head c.next c.m v (walk_here o.walk p turn))
 
-  pub clearing_source : {seen : List ℕ} {at : ℕ} → Clearing c v seen₀ seen at → 0 < at → Below c.n c.m c.ends → get_or c.ends (at - 1) 0 < c.n
-  clearing_source {at = at} w some ends = ends (at - 1) (linked_inside c.head c.next c.m v (walk_here w.walk some))
+    pub clearing_next : {x : ℕ} → c.n ≤ length seen₀ → x ≡ get_or c.ends p 0 → Clearing c v seen₀ (set seen x 0) w'
+    clearing_next {x} long z =
+        record {
+          walk = walk_next (walk_done o.walk (λ i d. cleared (get_or c.ends i 0) d)) p turn (rw (← z) (get_or-set_same seen x 0 0 inside));
+          sources = λ u h d. o.sources u h (λ y. d (cleared u y));
+          kept = kept_trans o.kept (kept_set c.n seen x 0 (rw z clearing_source));
+        }
+      where
+        inside : x < length seen
+        inside = omega (arith, clearing_source, z, long, o.kept.size)
 
-  pub clearing_next : {seen : List ℕ} {x at at' : ℕ} → Clearing c v seen₀ seen at → 0 < at → Below c.n c.m c.ends → c.n ≤ length seen₀ → x ≡ get_or c.ends (at - 1) 0 → at' ≡ next_at c.next at → Clearing c v seen₀ (set seen x 0) at'
-  clearing_next {seen} {x} {at} w some ends long z e =
-      record {
-        walk = walk_next (walk_done w.walk (λ i d. cleared (get_or c.ends i 0) d)) some e (rw (← z) (get_or-set_same seen x 0 0 inside));
-        sources = λ u h d. w.sources u h (λ y. d (cleared u y));
-        kept = kept_trans w.kept (kept_set c.n seen x 0 (rw z source));
-      }
-    where
-      source : get_or c.ends (at - 1) 0 < c.n
-      source = clearing_source w some ends
-
-      inside : x < length seen
-      inside = omega (arith, source, z, long, w.kept.size)
-
-      cleared : (u : ℕ) → get_or seen u 0 ≡ 0 → get_or (set seen x 0) u 0 ≡ 0
-      cleared u y = ⊎_elim (λ q. q.1) (λ q. q.1 ∙ y) (stored seen x 0 u inside)
-
-  pub clearing_ends : {seen : List ℕ} {at : ℕ} → Clearing c v seen₀ seen at → at ≤ 0 → AllBelow c.n 0 seen × Kept c.n seen₀ seen
-  clearing_ends {seen} w h = (λ u k. clear u k (ℕ_discrete (get_or seen u 0) 0), w.kept)
-    where
-      clear : (u : ℕ) → u < c.n → Dec (get_or seen u 0 ≡ 0) → get_or seen u 0 ≡ 0
-      clear u k (yes e) = e
-      clear u k (no d) = let q = w.sources u k d in rw q.1.1 at (walk_end w.walk h q.0 q.1.0)
-
--- One state: noted, then cleared.
-module _ {base n : ℕ} {Arc : Arcs} {key : List ℕ} {v : ℕ} {seen₀ seen₁ : List ℕ} {r : Bool} (f : SourcesNoted base n Arc key v seen₀ seen₁ r) where
-  pub sources_differ : {seen : List ℕ} → r ≡ true → AllBelow n 0 seen × Kept n seen₁ seen → Differ n (Apart base Arc key v) seen₀ seen true
-  sources_differ t k = record { exact = (λ y. f.exact.0 t, λ a. refl); blank = λ y. k.0; kept = kept_trans f.kept k.1 }
-
-  pub sources_alike : r ≡ false → Differ n (Apart base Arc key v) seen₀ seen₁ false
-  sources_alike t =
-      record {
-        exact = (λ y. absurd (false≢true y), λ a. absurd (false≢true (sym t ∙ f.exact.1 a)));
-        blank = λ y. absurd (false≢true y);
-        kept = f.kept;
-      }
+        cleared : (u : ℕ) → get_or seen u 0 ≡ 0 → get_or (set seen x 0) u 0 ≡ 0
+        cleared u y = ⊎_elim (λ q. q.1) (λ q. q.1 ∙ y) (stored seen x 0 u inside)
 
 -- One state after the other: P says that the steps into one differ.
 pub record Comparing (n : ℕ) (P : ℕ → Type 0) (seen₀ seen : List ℕ) (v : ℕ) : Type 0 where
@@ -236,42 +198,14 @@ pub record Comparing (n : ℕ) (P : ℕ → Type 0) (seen₀ seen : List ℕ) (v
   pub blank : AllBelow n 0 seen
   pub kept : Kept n seen₀ seen
 
-module _ {n : ℕ} {P : ℕ → Type 0} {seen₀ : List ℕ} where
-  pub comparing_first : AllBelow n 0 seen₀ → Comparing n P seen₀ seen₀ 0
-  comparing_first z = record { passed = λ w h. absurd (omega arith); blank = z; kept = kept_none n seen₀ }
-
-  module _ {seen seen' : List ℕ} {v : ℕ} {r : Bool} (s : Comparing n P seen₀ seen v) (d : Differ n (P v) seen seen' r) where
-    pub comparing_next : r ≡ true → Comparing n P seen₀ seen' (v + 1)
-    comparing_next t = record { passed = below_more P v s.passed (d.exact.0 t); blank = d.blank t; kept = kept_trans s.kept d.kept }
-
-    pub comparing_stops : r ≡ false → v < n → Differ n ((w : ℕ) → w < n → P w) seen₀ seen' false
-    comparing_stops t h =
-        record {
-          exact = (λ y. absurd (false≢true y), λ a. absurd (false≢true (sym t ∙ d.exact.1 (a v h))));
-          blank = λ y. absurd (false≢true y);
-          kept = kept_trans s.kept d.kept;
-        }
-
-  pub comparing_ends : {seen : List ℕ} {v : ℕ} → Comparing n P seen₀ seen v → n ≤ v → Differ n ((w : ℕ) → w < n → P w) seen₀ seen true
-  comparing_ends s h = record { exact = (λ y w k. s.passed w (omega arith), λ y. refl); blank = λ y. s.blank; kept = s.kept }
-
 -- Both ranges of keys, over a table that is emptied first.
-module _ {n : ℕ} {P Q : Type 0} {seen₀ seen₁ seen₂ : List ℕ} (long : n ≤ length seen₀) (empty : seen₁ ≡ filled n 0 seen₀) where
-  pub both_differ : {r s : Bool} {seen : List ℕ} → Differ n P seen₁ seen₂ r → r ≡ true → Differ n Q seen₂ seen s → Differ n (P × Q) seen₀ seen s
-  both_differ d t e =
-      record {
-        exact = (λ y. (d.exact.0 t, e.exact.0 y), λ a. e.exact.1 a.1);
-        blank = e.blank;
-        kept = kept_trans (emptied long empty) (kept_trans d.kept e.kept);
-      }
-
-  pub low_alike : {r : Bool} → Differ n P seen₁ seen₂ r → r ≡ false → Differ n (P × Q) seen₀ seen₂ false
-  low_alike d t =
-      record {
-        exact = (λ y. absurd (false≢true y), λ a. absurd (false≢true (sym t ∙ d.exact.1 a.0)));
-        blank = λ y. absurd (false≢true y);
-        kept = kept_trans (emptied long empty) d.kept;
-      }
+pub both_differ : {n : ℕ} {P Q : Type 0} {seen₀ seen₁ seen₂ seen : List ℕ} {r s : Bool} → Kept n seen₀ seen₁ → Differ n P seen₁ seen₂ r → r ≡ true → Differ n Q seen₂ seen s → Differ n (P × Q) seen₀ seen s
+both_differ empty d t e =
+    record {
+      exact = (λ y. (d.exact.0 t, e.exact.0 y), λ a. e.exact.1 a.1);
+      blank = e.blank;
+      kept = kept_trans empty (kept_trans d.kept e.kept);
+    }
 
 -- Where the list rule holds and keys are at most 31, walks meet the listed steps, and the two ranges have all keys: no two that walks meet are equal exactly where no two listed ones are.
 pub apart_distinct : {n m : ℕ} (from key : List ℕ) {to head next : List ℕ} → ListRule n m to head next → Below n m to → All m (λ p. key_fits (get_or key p 0)) → ApartKeys n (into (chains n m from head next)) key ↔ Distinct m from to key

@@ -33,8 +33,7 @@ use Rattle.tables.proofs.Bits.{bits, byte_sum}
 use Rattle.tables.proofs.Listed.{ListsSteps, step_in_list, list_has_step}
 use Rattle.adjacency.specs.Walks.{now'}
 use Rattle.adjacency.proofs.Walks.{linked, clamp_keeps, last_inside}
-use Rattle.search.specs.declared.spread.Mode.TheVariants.{Tree, Claimed}
-use Rattle.search.specs.Spreading.{Reached, start, back}
+use Rattle.search.specs.Spreading.{Tree, Claimed, Reached, start, back}
 use Rattle.audit.specs.Facts.{Passes, starts, starts_at, Backed, steps_into, key_fits, TableFacts}
 use Rattle.audit.proofs.Reading.{Suited, as_unseen, as_open, as_unknown, as_dead, as_live, suited_low, suited_terminal, suited_closed, suited_byte, decides_same, both_true, StateFacts, decides_state, StepFacts, decides_step}
 use Rattle.audit.proofs.Gathering.{reached_range}

@@ -16,14 +16,14 @@ use Rattle.tables.specs.Visits.{NoneVisited, marked}
 use Rattle.tables.specs.Keeping.{filled}
 use Rattle.tables.proofs.Keeping.{kept_none, kept_trans, kept_set, filled_at, filled_kept}
 use Rattle.tables.proofs.Marking.{marked_mark_other, kept_mark, zeros_unvisited}
-use Rattle.search.specs.declared.spread.Mode.{Mode}
 use Rattle.search.specs.declared.spread.Span.{Span}
-use Rattle.search.specs.Spreading.{allowed, Reached, start, back, unless, Before, Spread}
+use Rattle.search.specs.Offering.{Admitted}
+use Rattle.search.specs.Spreading.{Mode, allowed, Reached, start, back, unless, Before, Spread}
 use Rattle.search.proofs.Counting.{count_most}
 use Rattle.search.proofs.Marking.{unvisited_mark}
 use Rattle.search.proofs.Offering.{queued_more, queued_which, queued_still, queued_here}
 use Rattle.audit.specs.Facts.{All, Passes, Backs, starts_at, covered}
-use Rattle.audit.specs.Parts.{Started, passed, admitted, Gathered, Answered}
+use Rattle.audit.specs.Parts.{Gathered, Answered}
 use Rattle.audit.proofs.Reading.{both_true}
 
 module _ (starting : ℕ → Bool) {n : ℕ} {v₀ q₀ : List ℕ} where
@@ -73,17 +73,18 @@ module _ (starting : ℕ → Bool) {n : ℕ} {v₀ q₀ : List ℕ} where
         at (yes d) = z d (rw d at e)
         at (no d) = f (omega arith, e)
 
-    pub gathered_more : {v' q' : List ℕ} {s' : Span} → Started (starting k) k v q s v' q' s' → Gathered (k + 1) n starting v₀ q₀ v' q' s'
-    gathered_more (passed e ev eq es) =
-        rw (ev, eq, es)
-        (record {
+    pub gathered_passed : starting k ≡ false → Gathered (k + 1) n starting v₀ q₀ v q s
+    gathered_passed e =
+        record {
           queued = g.queued;
           exact = λ w. (λ b. newer ((g.exact w).0 b), older (Before q s.len w) (g.exact w).1 (λ d y. absurd (false≢true (sym e ∙ y))));
           only = λ w l m. newer (g.only w l m);
           visits = g.visits;
           queues = g.queues;
-        })
-    gathered_more {v'} {q'} {s'} (admitted e adm) =
+        }
+
+    pub gathered_admitted : {v' q' : List ℕ} {s' : Span} → starting k ≡ true → Admitted k v q s v' q' s' → Gathered (k + 1) n starting v₀ q₀ v' q' s'
+    gathered_admitted {v'} {q'} {s'} e adm =
         let r = g.queued.room in
         record {
           queued = queued_more n k r in_v in_q h new adm g.queued;
@@ -99,9 +100,6 @@ module _ (starting : ℕ → Bool) {n : ℕ} {v₀ q₀ : List ℕ} where
         at : (w : ℕ) → w < n → marked v' w ≡ true → Dec (w ≡ k) → Passes (k + 1) starting w
         at w l m (yes d) = rw d (omega arith, e)
         at w l m (no d) = newer (g.only w l (sym (marked_mark_other v k w d) ∙ (rw adm.marks at m)))
-
-  pub gathered_last : {k : ℕ} {v q : List ℕ} {s : Span} → Gathered k n starting v₀ q₀ v q s → k ≤ n → n ≤ k → Gathered n n starting v₀ q₀ v q s
-  gathered_last {k} g h l = let e : k ≡ n = omega arith in rw e at g
 
 pub reached_range : {n : ℕ} {Arc : Arcs} {ok : ℕ → ℕ → Bool} {f : ℕ → Bool} {w : ℕ} → Reached n Arc ok (Passes n f) w → w < n
 reached_range (start p) = p.0
@@ -168,10 +166,10 @@ module _ {n : ℕ} {P Q : Type 0} {v q v' q' : List ℕ} {r : Bool} (first : Ans
         queues = kept_trans first.queues second.queues;
       }
 
-  pub first_denied : r ≡ false → Answered n (P × Q) v q v' q' false
+  pub first_denied : r ≡ false → Answered n (P × Q) v q v' q' r
   first_denied e =
       record {
-        exact = (λ y. absurd (false≢true y), λ p. absurd (false≢true (sym e ∙ first.exact.1 p.0)));
+        exact = (λ y. absurd (false≢true (sym e ∙ y)), λ p. first.exact.1 p.0);
         none = first.none;
         visits = first.visits;
         queues = first.queues;

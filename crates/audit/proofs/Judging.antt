@@ -8,7 +8,10 @@ use mathlib.Core.Option.{some}
 use Prim.Native.Nat.{ℕ, ◌<◌, ◌≤◌}
 use native.Mathlib.Omega.{arith}
 use lib.ListN.{length, get_or}
+use Rattle.std.specs.Prelude.{Ok, Err}
 use Rattle.tables.specs.declared.Graph.{Graph}
+use Rattle.tables.specs.declared.refusal.Refusal.{Refusal}
+use Rattle.tables.specs.Numbers.{number_of}
 use Rattle.tables.specs.Tables.{Tables, nodes_of, visited_length, Long, enough, lengths, check_needs}
 use Rattle.tables.specs.Visits.{NoneVisited}
 use Rattle.tables.specs.Refused.{lent_number}
@@ -17,12 +20,11 @@ use Rattle.tables.specs.Listing.{Distinct}
 use Rattle.tables.specs.Work.{ListRule}
 use Rattle.tables.specs.Fitting.{Fits}
 use Rattle.tables.proofs.Sizes.{long_checked, long_fewer}
-use Rattle.tables.proofs.Refusing.{Lent, lent_leaves, lent_passes, lent_refuses}
-use Rattle.tables.specs.Keeping.{Kept, KeptVisited}
+use Rattle.tables.proofs.Refusing.{Lent, lent_leaves, lent_passes, lent_refuses, number_positive}
+use Rattle.tables.specs.Keeping.{Kept}
 use Rattle.tables.proofs.Keeping.{kept_none, kept_trans}
-use Rattle.audit.specs.declared.answer.Audit.TheVariants.{Fits as Yes, Unfit as No, Refused}
-use Rattle.audit.specs.Facts.{All, state_fits, step_fits, key_fits, steps_into, TableFacts}
-use Rattle.audit.specs.Parts.{Below, ApartKeys, Differ, ListFits, Answered, Claims, Judged}
+use Rattle.audit.specs.Facts.{steps_into, TableFacts}
+use Rattle.audit.specs.Parts.{Below, ApartKeys, Differ, ListFits, ListsJudged, Answered, Claims, EntriesFit, Judged}
 use Rattle.audit.specs.Audited.{audit_refusal, Audited}
 use Rattle.audit.proofs.Reading.{StepFacts, decides_state, decides_step}
 use Rattle.audit.proofs.Canonical.{canonical_legal}
@@ -37,48 +39,57 @@ facts_fit g t a b c = (
   λ q. met q.2,
 )
 
--- What the tests of states and steps leave to the later parts.
-pub none_visited : (n m : ℕ) (status marks from successor in_head out_head visited : List ℕ) → All n (state_fits m status marks from successor in_head out_head visited) → NoneVisited n visited
-none_visited n m status marks from successor in_head out_head visited a s h = ((decides_state m status marks from successor in_head out_head visited s).sound (a s h)).unvisited
-
-pub ends_below : (n m : ℕ) (status marks from to : List ℕ) → All m (λ p. step_fits n status marks (get_or from p 0) (get_or to p 0)) → Below n m from × Below n m to
-ends_below n m status marks from to a = (λ p h. (fact p h).source, λ p h. (fact p h).target)
-  where
-    fact : (p : ℕ) → p < m → StepFacts n status marks (get_or from p 0) (get_or to p 0)
-    fact p h = (decides_step n status marks (get_or from p 0) (get_or to p 0)).sound (a p h)
-
--- Where steps, keys and lists fit, no two steps that walks meet are equal exactly where no two listed ones are.
-apart_facts : {n m : ℕ} (t : Tables) → All m (λ p. step_fits n t.status t.marks (get_or t.from p 0) (get_or t.to p 0)) → All m (λ p. key_fits (get_or t.key p 0)) → ListRule n m t.to t.in_head t.in_next → ApartKeys n (steps_into n m t) t.key ↔ Distinct m t.from t.to t.key
-apart_facts {n} {m} t steps keys rule = apart_distinct t.from t.key rule (ends_below n m t.status t.marks t.from t.to steps).1 keys
-
-pub alike : {n m : ℕ} (t : Tables) {r : Bool} {queue queue' : List ℕ} → Differ n (ApartKeys n (steps_into n m t) t.key) queue queue' r → r ≡ false → TableFacts n m t → ⊥
-alike t d e f = false≢true (sym e ∙ d.exact.1 ((apart_facts t f.steps f.keys f.into).1 f.distinct))
-
--- A no: some fact fails.
-pub denied : {n m : ℕ} {t : Tables} {queue visited : List ℕ} → (TableFacts n m t → ⊥) → Kept n t.queue queue → KeptVisited n t.visited visited → Judged n m t false queue visited
-denied f q v = record { exact = (λ e. absurd (false≢true e), λ t. absurd (f t)); none = λ e. absurd (false≢true e); visits = v; queues = q }
-
--- The last part decides where all others passed.
-pub judged :
-    {n m : ℕ} (t : Tables) {a b k c d e r : Bool} {queue₁ queue₂ queue₃ queue visited : List ℕ} →
-    (a ≡ true) ↔ All n (state_fits m t.status t.marks t.from t.successor t.in_head t.out_head t.visited) → a ≡ true →
-    (b ≡ true) ↔ All m (λ p. step_fits n t.status t.marks (get_or t.from p 0) (get_or t.to p 0)) → b ≡ true →
-    (k ≡ true) ↔ All m (λ p. key_fits (get_or t.key p 0)) → k ≡ true →
-    ListFits n m t.to t.in_head t.in_next t.queue queue₁ c → c ≡ true →
-    ListFits n m t.from t.out_head t.out_next queue₁ queue₂ d → d ≡ true →
-    Differ n (ApartKeys n (steps_into n m t) t.key) queue₂ queue₃ e → e ≡ true →
-    Answered n (Claims n (steps_into n m t) t.status t.marks t.successor) t.visited queue₃ visited queue r →
-    Judged n m t r queue visited
-judged {n} {m} t states sa steps sb keys sk into sc out_of sd differ se claims =
+-- Both lists, and the search for equal steps.
+pub lists_judged : {n m : ℕ} (t : Tables) {a b r : Bool} {last last' seen : List ℕ} → ListFits n m t.to t.in_head t.in_next t.queue last a → a ≡ true → ListFits n m t.from t.out_head t.out_next last last' b → b ≡ true → Differ n (ApartKeys n (steps_into n m t) t.key) last' seen r → ListsJudged n m t seen r
+lists_judged t into a out_of b differ =
     record {
-      exact = (
-        λ e. record { states = states.0 sa; steps = steps.0 sb; keys = keys.0 sk; distinct = (apart_facts t (steps.0 sb) (keys.0 sk) (into.exact.0 sc)).0 (differ.exact.0 se); into = into.exact.0 sc; out_of = out_of.exact.0 sd; lives = (claims.exact.0 e).0; escapes = (claims.exact.0 e).1 },
-        λ f. claims.exact.1 (f.lives, f.escapes),
-      );
-      none = λ e. claims.none;
-      visits = claims.visits;
-      queues = kept_trans into.kept (kept_trans out_of.kept (kept_trans differ.kept claims.queues));
+      exact = (λ y. (into.exact.0 a, out_of.exact.0 b, differ.exact.0 y), λ q. differ.exact.1 q.2);
+      kept = kept_trans into.kept (kept_trans out_of.kept differ.kept);
     }
+
+-- What the tests of entries leave to the later parts, and why these decide where the entries pass.
+module _ {n m : ℕ} (t : Tables) (e : EntriesFit n m t) where
+  step_facts : (p : ℕ) → p < m → StepFacts n t.status t.marks (get_or t.from p 0) (get_or t.to p 0)
+  step_facts p h = (decides_step n t.status t.marks (get_or t.from p 0) (get_or t.to p 0)).sound (e.1 p h)
+
+  pub none_visited : NoneVisited n t.visited
+  none_visited s h = ((decides_state m t.status t.marks t.from t.successor t.in_head t.out_head t.visited s).sound (e.0 s h)).unvisited
+
+  pub ends_below : Below n m t.from × Below n m t.to
+  ends_below = (λ p h. (step_facts p h).source, λ p h. (step_facts p h).target)
+
+  -- No two steps that walks meet are equal exactly where no two listed ones are.
+  apart_facts : ListRule n m t.to t.in_head t.in_next → ApartKeys n (steps_into n m t) t.key ↔ Distinct m t.from t.to t.key
+  apart_facts rule = apart_distinct t.from t.key rule ends_below.1 e.2
+
+module _ {n m : ℕ} (t : Tables) where
+  entries : TableFacts n m t → EntriesFit n m t
+  entries f = (f.states, f.steps, f.keys)
+
+  -- A no: some fact fails.
+  denied : {queue : List ℕ} → (TableFacts n m t → ⊥) → Kept n t.queue queue → Judged n m t false queue t.visited
+  denied f q = record { exact = (λ e. absurd (false≢true e), λ t. absurd (f t)); none = λ e. absurd (false≢true e); visits = kept_none (visited_length n) t.visited; queues = q }
+
+  pub entries_denied : (false ≡ true) ↔ EntriesFit n m t → Judged n m t false t.queue t.visited
+  entries_denied a = denied (λ f. false≢true (a.1 (entries f))) (kept_none n t.queue)
+
+  module _ {b : Bool} {queue : List ℕ} (lists : (b ≡ true) ↔ (ListRule n m t.to t.in_head t.in_next × ListRule n m t.from t.out_head t.out_next × ApartKeys n (steps_into n m t) t.key)) (kept : Kept n t.queue queue) where
+    pub lists_denied : b ≡ false → Judged n m t false queue t.visited
+    lists_denied z = denied (λ f. false≢true (sym z ∙ lists.1 (f.into, f.out_of, (apart_facts t (entries f) f.into).1 f.distinct))) kept
+
+    -- The last part decides where all others passed.
+    pub judged : {r : Bool} {queue' visited : List ℕ} → EntriesFit n m t → b ≡ true → Answered n (Claims n (steps_into n m t) t.status t.marks t.successor) t.visited queue visited queue' r → Judged n m t r queue' visited
+    judged e z claims =
+        let l = lists.0 z in
+        record {
+          exact = (
+            λ y. record { states = e.0; steps = e.1; keys = e.2; distinct = (apart_facts t e l.0).0 l.2; into = l.0; out_of = l.1; lives = (claims.exact.0 y).0; escapes = (claims.exact.0 y).1 },
+            λ f. claims.exact.1 (f.lives, f.escapes),
+          );
+          none = λ y. claims.none;
+          visits = claims.visits;
+          queues = kept_trans kept claims.queues;
+        }
 
 module _ (g : Graph) (t : Tables) where
   module _ (passed : lent_number g (enough (check_needs g.n (nodes_of g) g.limit (lengths t))) ≡ 0) where
@@ -98,9 +109,9 @@ module _ (g : Graph) (t : Tables) where
     none_refused : (k : ℕ) → audit_refusal g t ≡ some k → ⊥
     none_refused k e = let p = lent_passes g (enough (check_needs g.n (nodes_of g) g.limit (lengths t))) passed in let z : ◌≡◌ {A = ℕ} 0 1 = cc in omega arith
 
-    -- A yes,
-    pub says_yes : {queue visited : List ℕ} → Judged g.n g.steps t true queue visited → Audited g t Yes queue visited
-    says_yes j =
+    -- A yes or a no,
+    pub says : (b : Bool) {queue visited : List ℕ} → Judged g.n g.steps t b queue visited → Audited g t (Ok b) queue visited
+    says true j =
         let f = fits.0 (j.exact.0 refl) in
         record {
           refused = λ k. (λ e. absurd (let z : ◌≡◌ {A = ℕ} 0 1 = cc in omega arith), λ e. absurd (none_refused k e));
@@ -125,10 +136,7 @@ module _ (g : Graph) (t : Tables) where
                 unvisited = j.none refl;
               };
         }
-
-    -- a no,
-    pub says_no : {queue visited : List ℕ} → Judged g.n g.steps t false queue visited → Audited g t No queue visited
-    says_no j =
+    says false j =
         record {
           refused = λ k. (λ e. absurd (let z : ◌≡◌ {A = ℕ} 0 1 = cc in omega arith), λ e. absurd (none_refused k e));
           unchanged = λ k e. absurd (let z : ◌≡◌ {A = ℕ} 0 1 = cc in omega arith);
@@ -140,11 +148,11 @@ module _ (g : Graph) (t : Tables) where
         }
 
   -- and a refusal.
-  pub says_refused : (k : ℕ) → lent_number g (enough (check_needs g.n (nodes_of g) g.limit (lengths t))) ≡ k → (k ≡ 0 → ⊥) → Audited g t (Refused k) t.queue t.visited
-  says_refused k e n =
-      let r = lent_refuses g (enough (check_needs g.n (nodes_of g) g.limit (lengths t))) k e n in
+  pub says_refused : (r : Refusal) → lent_number g (enough (check_needs g.n (nodes_of g) g.limit (lengths t))) ≡ number_of r → Audited g t (Err r) t.queue t.visited
+  says_refused r e =
+      let number = lent_refuses g (enough (check_needs g.n (nodes_of g) g.limit (lengths t))) (number_of r) e (number_positive r) in
       record {
-        refused = λ j. (λ q. let z : k ≡ j = cc in rw z at r, λ q. let z : k ≡ j = cc in rw z);
+        refused = λ j. (λ q. let z : number_of r ≡ j = cc in rw z at number, λ q. let z : number_of r ≡ j = cc in rw z);
         unchanged = λ j q. (refl, refl);
         yes = λ p. absurd (let z : ◌≡◌ {A = ℕ} 0 1 = cc in omega arith);
         no = λ p. absurd (let z : ◌≡◌ {A = ℕ} 0 1 = cc in omega arith);

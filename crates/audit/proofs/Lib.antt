@@ -3,7 +3,6 @@ pub mod Reading
 pub mod Canonical
 pub mod Founding
 pub mod Meeting
-pub mod Looping
 pub mod Chaining
 pub mod Differing
 pub mod Gathering

@@ -28,8 +28,7 @@ use Rattle.tables.specs.Fitting.{StepAt, marks_of, Consistent}
 use Rattle.tables.proofs.Bits.{bits, byte, marks_bits, decides_closed_mark}
 use Rattle.tables.proofs.Listed.{lists_of, step_in_list, list_has_step, listed_key, consistent_distinct}
 use Rattle.adjacency.proofs.Walks.{linked, meets_none, clamp_keeps}
-use Rattle.search.specs.declared.spread.Mode.TheVariants.{Tree, Claimed}
-use Rattle.search.specs.Spreading.{start, back}
+use Rattle.search.specs.Spreading.{Tree, Claimed, start, back}
 use Rattle.audit.specs.Facts.{starts, Backed, steps_into, key_fits, TableFacts}
 use Rattle.audit.proofs.Reading.{Suited, as_unseen, as_open, as_unknown, as_dead, as_live, StateFacts, decides_state, StepFacts, decides_step}
 

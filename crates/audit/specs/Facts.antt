@@ -10,9 +10,7 @@ use Rattle.tables.specs.Marks.{has_named, has_terminal}
 use Rattle.tables.specs.Listing.{Distinct}
 use Rattle.tables.specs.Work.{ListRule}
 use Rattle.tables.specs.Visits.{marked}
-use Rattle.search.specs.declared.spread.Mode.{Mode}
-use Rattle.search.specs.declared.spread.Mode.TheVariants.{Tree, Claimed}
-use Rattle.search.specs.Spreading.{chains, into, allowed, Reached}
+use Rattle.search.specs.Spreading.{chains, into, Mode, Tree, Claimed, allowed, Reached}
 
 -- A test passes at each index below n.
 abbrev pub All : ℕ → (ℕ → Bool) → Type 0

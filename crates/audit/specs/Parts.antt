@@ -9,11 +9,9 @@ use Rattle.tables.specs.Bits.{has_bit, with_bit}
 use Rattle.tables.specs.Visits.{NoneVisited, marked}
 use Rattle.tables.specs.Fitting.{AllBelow}
 use Rattle.tables.specs.Keeping.{Kept, KeptVisited}
-use Rattle.search.specs.declared.spread.Mode.TheVariants.{Tree, Claimed}
 use Rattle.search.specs.declared.spread.Span.{Span}
-use Rattle.search.specs.Spreading.{Before, Queued}
-use Rattle.search.specs.Offering.{Admitted}
-use Rattle.audit.specs.Facts.{Passes, Backs, TableFacts}
+use Rattle.search.specs.Spreading.{Tree, Claimed, Before, Queued}
+use Rattle.audit.specs.Facts.{All, Passes, state_fits, step_fits, key_fits, steps_into, Backs, TableFacts}
 
 -- The ends of the first m steps are states.
 abbrev pub Below : ℕ → ℕ → List ℕ → Type 0
@@ -22,11 +20,6 @@ Below n m ends = (p : ℕ) → p < m → get_or ends p 0 < n
 -- The first n entries of two tables are equal.
 abbrev pub Same : ℕ → List ℕ → List ℕ → Type 0
 Same n a b = (v : ℕ) → v < n → get_or a v 0 ≡ get_or b v 0
-
--- The next entry of the step p at v is compared with the last step met at v, which p then is.
-pub data NextFits (p v : ℕ) (next last last' : List ℕ) (r : Bool) : Type 0 where
-  differs : r ≡ false → (get_or next p 0 ≡ get_or last v 0 → ⊥) → last' ≡ last → NextFits p v next last last' r
-  follows : r ≡ true → get_or next p 0 ≡ get_or last v 0 → last' ≡ set last v (p + 1) → NextFits p v next last last' r
 
 -- The half of the list rule that speaks of next entries.
 abbrev pub Nexts : ℕ → List ℕ → List ℕ → Type 0
@@ -81,11 +74,6 @@ pub record Differ (n : ℕ) (P : Type 0) (seen seen' : List ℕ) (r : Bool) : Ty
   pub blank : r ≡ true → AllBelow n 0 seen'
   pub kept : Kept n seen seen'
 
--- A start is admitted, and any other state passed over.
-pub data Started (start : Bool) (s : ℕ) (visited queue : List ℕ) (span : Span) (visited' queue' : List ℕ) (span' : Span) : Type 0 where
-  passed : start ≡ false → visited' ≡ visited → queue' ≡ queue → span' ≡ span → Started start s visited queue span visited' queue' span'
-  admitted : start ≡ true → Admitted s visited queue span visited' queue' span' → Started start s visited queue span visited' queue' span'
-
 -- Exactly the starts below k, of n states, are queued and visited.
 pub record Gathered (k n : ℕ) (start : ℕ → Bool) (visited queue visited' queue' : List ℕ) (span : Span) : Type 0 where
   pub queued : Queued n visited' queue' span
@@ -105,6 +93,18 @@ pub record Answered (n : ℕ) (P : Type 0) (visited queue visited' queue' : List
 abbrev pub Claims : ℕ → Arcs → (status marks successor : List ℕ) → Type 0
 Claims n Arc status marks successor =
     Backs n Arc Claimed status_live status marks successor × Backs n Arc Tree status_unknown status marks successor
+
+-- The facts that the entries of a state, of a step or of a key tell by themselves.
+abbrev pub EntriesFit : ℕ → ℕ → Tables → Type 0
+EntriesFit n m t =
+    All n (state_fits m t.status t.marks t.from t.successor t.in_head t.out_head t.visited)
+    × All m (λ p. step_fits n t.status t.marks (get_or t.from p 0) (get_or t.to p 0))
+    × All m (λ p. key_fits (get_or t.key p 0))
+
+-- Whether the lists of steps are right, and no two steps that walks meet are equal.
+pub record ListsJudged (n m : ℕ) (t : Tables) (queue' : List ℕ) (r : Bool) : Type 0 where
+  pub exact : (r ≡ true) ↔ (ListRule n m t.to t.in_head t.in_next × ListRule n m t.from t.out_head t.out_next × ApartKeys n (steps_into n m t) t.key)
+  pub kept : Kept n t.queue queue'
 
 -- Whether the facts hold. After a yes no state is marked visited.
 pub record Judged (n m : ℕ) (t : Tables) (r : Bool) (queue' visited' : List ℕ) : Type 0 where

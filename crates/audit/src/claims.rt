@@ -1,178 +1,95 @@
 // Whether what a status claims is so: a live state reaches a terminal one, and the successors of an unknown one lead to an open one.
-ghost use Rattle.std.specs.Prelude.{◌≡◌, ◌↔◌, true, ◌≤◌, ◌<◌, length};
+ghost use Rattle.std.specs.Prelude.{◌≡◌, ◌↔◌, true, ℕ, ◌≤◌, ◌<◌, length};
 ghost use Rattle.tables.specs.Tables.{visited_length};
-ghost use Rattle.tables.specs.Visits.{HasMark, NoneVisited};
-ghost use Rattle.search.specs.Spreading.{chains, into, Walkable};
+ghost use Rattle.tables.specs.Visits.{NoneVisited};
+ghost use Rattle.search.specs.Spreading.{Mode, allowed, Tells};
+ghost use Rattle.audit.specs.Contents.{arcs_of};
 ghost use Rattle.audit.specs.Facts.{All, starts, starts_at, covered, Backs};
-ghost use Rattle.audit.specs.Parts.{Answered, Claims, Gathered, Started};
+ghost use Rattle.audit.specs.Parts.{Answered, Claims, Gathered};
 
-use search::spread::{Mode, Span, admit, spread};
-use tables::{LIVE, OPEN, UNKNOWN, fill, has_terminal, is_visited, visited_len};
+use super::stored::Stored;
+use search::spread::{Span, admit, spread};
+use tables::{LIVE, Mark, OPEN, UNKNOWN, is_visited, visited_len};
 
 // Whether the live states reach a terminal one, and the unknown states escape.
-pub fn claims_fit(
-    n: usize,
-    steps: usize,
-    status: &[u8],
-    marks: &[u8],
-    from: &[u16],
-    successor: &[u16],
-    in_head: &[u16],
-    in_next: &[u16],
-    queue: &mut [u16],
-    visited: &mut [u16],
-) -> bool
-    requires none_visited { (0 < n) × (n < 65536) × NoneVisited n visited.old }
-    requires walkable { Walkable (chains n steps from.now in_head.now in_next.now) }
-    requires n_in_bounds { (n ≤ length status.now) × (n ≤ length marks.now) × (n ≤ length successor.now) × (n ≤ length queue.old) × (visited_length n ≤ length visited.old) }
-    ensures { Answered n (Claims n (into (chains n steps from.now in_head.now in_next.now))
-        status.now marks.now successor.now)
+pub fn claims_fit(stored: Stored, queue: &mut [u16], visited: &mut [u16]) -> bool
+    requires none_visited { NoneVisited stored.n visited.old }
+    requires queue_in_bounds { stored.n ≤ length queue.old }
+    requires visited_in_bounds { visited_length stored.n ≤ length visited.old }
+    ensures { Answered stored.entry.n (Claims stored.entry.n (arcs_of stored.entry) stored.entry.status.now stored.entry.marks.now stored.entry.successor.now)
         visited.old queue.old visited.new queue.new result }
 {
-    if claimed(
-        Mode::Claimed,
-        LIVE,
-        n,
-        steps,
-        status,
-        marks,
-        from,
-        successor,
-        in_head,
-        in_next,
-        queue,
-        visited,
-    ) {
-        return claimed(
-            Mode::Tree,
-            UNKNOWN,
-            n,
-            steps,
-            status,
-            marks,
-            from,
-            successor,
-            in_head,
-            in_next,
-            queue,
-            visited,
-        );
-    }
-    false
+    let live = |y: usize, _: usize| stored.status[y] == LIVE;
+    let by_successor = |y: usize, p: usize| stored.status[y] == UNKNOWN
+        && usize::from(stored.successor[y]) == p;
+    claimed(LIVE, live, stored, queue, visited)
+        && claimed(UNKNOWN, by_successor, stored, queue, visited)
 }
 
-// Visits all that the mode allows from the starts of a verdict, by one spread, and says whether each state with that verdict is visited. It
+// Visits all that is allowed from the starts of a verdict, by one spread, and says whether each state with that verdict is visited. It
 // leaves no state visited. A state is queued once, and then its steps are looked at: O(n + steps).
-fn claimed(
-    mode: Mode,
+fn claimed<F: Fn(usize, usize) -> bool>(
     verdict: u8,
-    n: usize,
-    steps: usize,
-    status: &[u8],
-    marks: &[u8],
-    from: &[u16],
-    successor: &[u16],
-    in_head: &[u16],
-    in_next: &[u16],
+    allows: F,
+    stored: Stored,
     queue: &mut [u16],
     visited: &mut [u16],
 ) -> bool
-    requires none_visited { (0 < n) × (n < 65536) × NoneVisited n visited.old }
-    requires walkable { Walkable (chains n steps from.now in_head.now in_next.now) }
-    requires n_in_bounds { (n ≤ length status.now) × (n ≤ length marks.now) × (n ≤ length successor.now) × (n ≤ length queue.old) × (visited_length n ≤ length visited.old) }
-    ensures { Answered n (Backs n (into (chains n steps from.now in_head.now in_next.now))
-        mode verdict status.now marks.now successor.now)
+    requires callable { (y p : ℕ) → y < stored.n → F.pre allows y p }
+    requires tells { (mode : Mode) × Tells stored.n (F.post allows) (allowed mode stored.status.now stored.successor.now) }
+    requires none_visited { NoneVisited stored.n visited.old }
+    requires queue_in_bounds { stored.n ≤ length queue.old }
+    requires visited_in_bounds { visited_length stored.n ≤ length visited.old }
+    ensures { (mode : Mode) → Tells stored.entry.n (F.post allows) (allowed mode stored.entry.status.now stored.entry.successor.now) →
+        Answered stored.entry.n (Backs stored.entry.n (arcs_of stored.entry) mode verdict stored.entry.status.now stored.entry.marks.now stored.entry.successor.now)
         visited.old queue.old visited.new queue.new result }
 {
-    let found = gather(n, verdict, status, marks, queue, visited);
-    spread(
-        mode, n, steps, found, from, in_head, in_next, status, successor, queue, visited,
-    );
-    let all = all_covered(n, verdict, status, visited);
-    let entries = visited_len(n);
-    fill(visited, entries, 0);
+    let found = gather(verdict, stored, queue, visited);
+    spread(allows, found, stored.into(), queue, visited);
+    let all = all_covered(verdict, stored, visited);
+    visited[..visited_len(stored.n)].fill(0);
     all
 }
 
 // Queues and visits the starts of a verdict, where none is visited before.
-fn gather(
-    n: usize,
-    verdict: u8,
-    status: &[u8],
-    marks: &[u8],
-    queue: &mut [u16],
-    visited: &mut [u16],
-) -> Span
-    requires none_visited { (0 < n) × (n < 65536) × NoneVisited n visited.old }
-    requires n_in_bounds { (n ≤ length status.now) × (n ≤ length marks.now) × (n ≤ length queue.old) × (visited_length n ≤ length visited.old) }
-    ensures { Gathered n n (starts_at verdict status.now marks.now)
+fn gather(verdict: u8, stored: Stored, queue: &mut [u16], visited: &mut [u16]) -> Span
+    requires none_visited { NoneVisited stored.n visited.old }
+    requires queue_in_bounds { stored.n ≤ length queue.old }
+    requires visited_in_bounds { visited_length stored.n ≤ length visited.old }
+    ensures { Gathered stored.entry.n stored.entry.n (starts_at verdict stored.entry.status.now stored.entry.marks.now)
         visited.old queue.old visited.new queue.new result }
 {
     let mut span = Span {
         len: 0,
-        low: n,
+        low: stored.n,
         high: 0,
     };
-    let mut s = 0;
-    while s < n {
-        span = admit_start(s, verdict, span, status, marks, queue, visited);
-        s = s + 1;
+    for s in 0..stored.n {
+        if starts(verdict, stored.status[s], stored.marks[s]) {
+            span = admit(span, s, queue, visited);
+        }
     }
     span
 }
 
-// Queues and visits s, where it is a start.
-fn admit_start(
-    s: usize,
-    verdict: u8,
-    span: Span,
-    status: &[u8],
-    marks: &[u8],
-    queue: &mut [u16],
-    visited: &mut [u16],
-) -> Span
-    requires queue_has_room { (s < 65536) × (span.len < length queue.old) }
-    requires s_in_bounds { (s < length status.now) × (s < length marks.now) × HasMark visited.old s }
-    ensures { Started (starts_at verdict status.now marks.now s) s
-        visited.old queue.old span visited.new queue.new result }
-{
-    if starts(verdict, status[s], marks[s]) {
-        return admit(span, s, queue, visited);
-    }
-    span
-}
-
-// Whether a state is a start: for live a terminal state, for another verdict an open one.
+// Whether a state is a start: for live a terminal state, for another verdict an open one. The verdict is a parameter here: a closure for each
+// would bring `claimed` and `gather` four clauses more.
+#[tactic(auto, unfolding(crate::specs::Facts::starts))]
 fn starts(verdict: u8, status: u8, mark: u8) -> bool
     ensures { result ≡ starts verdict status mark }
 {
     if verdict == LIVE {
-        return has_terminal(mark);
+        Mark::Terminal.is_set(mark)
+    } else {
+        status == OPEN
     }
-    status == OPEN
 }
 
-fn all_covered(n: usize, verdict: u8, status: &[u8], visited: &[u16]) -> bool
-    requires { (n ≤ length status.now) × (visited_length n ≤ length visited.now) }
-    ensures { (result ≡ true) ↔ All n (covered verdict status.now visited.now) }
+// Whether each state with the verdict is visited.
+#[tactic(auto, unfolding(crate::specs::Facts::covered, tables::specs::Tables::visited_length))]
+fn all_covered(verdict: u8, stored: Stored, visited: &[u16]) -> bool
+    requires { visited_length stored.n ≤ length visited.now }
+    ensures { (result ≡ true) ↔ All stored.entry.n (covered verdict stored.entry.status.now visited.now) }
 {
-    let mut s = 0;
-    while s < n {
-        if is_covered(s, verdict, status, visited) {
-            s = s + 1;
-        } else {
-            return false;
-        }
-    }
-    true
-}
-
-fn is_covered(s: usize, verdict: u8, status: &[u8], visited: &[u16]) -> bool
-    requires { (s < length status.now) × HasMark visited.now s }
-    ensures { result ≡ covered verdict status.now visited.now s }
-{
-    if status[s] != verdict {
-        return true;
-    }
-    is_visited(visited, s)
+    (0..stored.n).all(|s| stored.status[s] != verdict || is_visited(visited, s))
 }

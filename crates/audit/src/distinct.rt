@@ -3,59 +3,38 @@
 ghost use Rattle.std.specs.Prelude.{◌≤◌, ◌<◌, length};
 ghost use Rattle.tables.specs.Fitting.{AllBelow};
 ghost use Rattle.tables.specs.Keeping.{Kept};
-ghost use Rattle.search.specs.Spreading.{chains, into, Walkable};
+ghost use Rattle.adjacency.specs.Adjacencies.{chains_of};
+ghost use Rattle.search.specs.Spreading.{into};
 ghost use Rattle.audit.specs.Parts.{Below, Apart, ApartAll, ApartKeys, FromSources, Noted, SourcesNoted, Differ};
 
-use adjacency::{after, first};
-use tables::{fill, has_bit, wide, with_bit};
+use adjacency::Adjacency;
+use tables::{has_bit, with_bit};
 
 // The ranges start here.
 const LOW: u8 = 0;
 
 const HIGH: u8 = 16;
 
-pub fn steps_differ(
-    n: usize,
-    steps: usize,
-    from: &[u16],
-    key: &[u8],
-    in_head: &[u16],
-    in_next: &[u16],
-    seen: &mut [u16],
-) -> bool
-    requires n_in_bounds { (n ≤ length seen.old) × (steps ≤ length key.now) × Below n steps from.now }
-    requires walkable { Walkable (chains n steps from.now in_head.now in_next.now) }
-    ensures { Differ n (ApartKeys n (into (chains n steps from.now in_head.now in_next.now)) key.now)
-        seen.old seen.new result }
+pub fn steps_differ(arcs: Adjacency, key: &[u8], seen: &mut [u16]) -> bool
+    requires key_in_bounds { arcs.steps ≤ length key.now }
+    requires seen_in_bounds { arcs.n ≤ length seen.old }
+    requires ends_below { Below arcs.n arcs.steps arcs.ends.now }
+    ensures { Differ arcs.entry.n (ApartKeys arcs.entry.n (into (chains_of arcs.entry)) key.now) seen.old seen.new result }
 {
-    fill(seen, n, 0);
-    if range_differs(LOW, n, steps, from, key, in_head, in_next, seen) {
-        return range_differs(HIGH, n, steps, from, key, in_head, in_next, seen);
-    }
-    false
+    seen[..arcs.n].fill(0);
+    range_differs(LOW, arcs, key, seen) && range_differs(HIGH, arcs, key, seen)
 }
 
 // No two steps whose keys are in a range are equal.
-fn range_differs(
-    base: u8,
-    n: usize,
-    steps: usize,
-    from: &[u16],
-    key: &[u8],
-    in_head: &[u16],
-    in_next: &[u16],
-    seen: &mut [u16],
-) -> bool
-    requires n_in_bounds { (n ≤ length seen.old) × (steps ≤ length key.now) × Below n steps from.now × AllBelow n 0 seen.old }
-    requires walkable { Walkable (chains n steps from.now in_head.now in_next.now) }
-    ensures { Differ n (ApartAll base n (into (chains n steps from.now in_head.now in_next.now)) key.now)
-        seen.old seen.new result }
+fn range_differs(base: u8, arcs: Adjacency, key: &[u8], seen: &mut [u16]) -> bool
+    requires key_in_bounds { arcs.steps ≤ length key.now }
+    requires seen_in_bounds { arcs.n ≤ length seen.old }
+    requires ends_below { Below arcs.n arcs.steps arcs.ends.now }
+    requires blank { AllBelow arcs.n 0 seen.old }
+    ensures { Differ arcs.entry.n (ApartAll base arcs.entry.n (into (chains_of arcs.entry)) key.now) seen.old seen.new result }
 {
-    let mut v = 0;
-    while v < n {
-        if sources_differ(base, n, steps, v, from, key, in_head, in_next, seen) {
-            v = v + 1;
-        } else {
+    for v in 0..arcs.n {
+        if !sources_differ(base, arcs, v, key, seen) {
             return false;
         }
     }
@@ -63,52 +42,32 @@ fn range_differs(
 }
 
 // Nor are two such steps into v. Then no entry is left marked.
-fn sources_differ(
-    base: u8,
-    n: usize,
-    steps: usize,
-    v: usize,
-    from: &[u16],
-    key: &[u8],
-    in_head: &[u16],
-    in_next: &[u16],
-    seen: &mut [u16],
-) -> bool
-    requires in_range { (v < n) × (n ≤ length seen.old) × (steps ≤ length key.now) × Below n steps from.now × AllBelow n 0 seen.old }
-    requires walkable { Walkable (chains n steps from.now in_head.now in_next.now) }
-    ensures { Differ n (Apart base (into (chains n steps from.now in_head.now in_next.now)) key.now v)
-        seen.old seen.new result }
+fn sources_differ(base: u8, arcs: Adjacency, v: usize, key: &[u8], seen: &mut [u16]) -> bool
+    requires in_range { v < arcs.n }
+    requires key_in_bounds { arcs.steps ≤ length key.now }
+    requires seen_in_bounds { arcs.n ≤ length seen.old }
+    requires ends_below { Below arcs.n arcs.steps arcs.ends.now }
+    requires blank { AllBelow arcs.n 0 seen.old }
+    ensures { Differ arcs.entry.n (Apart base (into (chains_of arcs.entry)) key.now v) seen.old seen.new result }
 {
-    if note_sources(base, n, steps, v, from, key, in_head, in_next, seen) {
-        clear_sources(n, steps, v, from, in_head, in_next, seen);
-        return true;
+    if !note_sources(base, arcs, v, key, seen) {
+        return false;
     }
-    false
+    clear_sources(arcs, v, seen);
+    true
 }
 
 // Notes the steps into v, up to one that is equal to one before.
-fn note_sources(
-    base: u8,
-    n: usize,
-    steps: usize,
-    v: usize,
-    from: &[u16],
-    key: &[u8],
-    in_head: &[u16],
-    in_next: &[u16],
-    seen: &mut [u16],
-) -> bool
-    requires in_range { (v < n) × (n ≤ length seen.old) × (steps ≤ length key.now) × Below n steps from.now × AllBelow n 0 seen.old }
-    requires walkable { Walkable (chains n steps from.now in_head.now in_next.now) }
-    ensures { SourcesNoted base n (into (chains n steps from.now in_head.now in_next.now)) key.now v
-        seen.old seen.new result }
+fn note_sources(base: u8, arcs: Adjacency, v: usize, key: &[u8], seen: &mut [u16]) -> bool
+    requires in_range { v < arcs.n }
+    requires key_in_bounds { arcs.steps ≤ length key.now }
+    requires seen_in_bounds { arcs.n ≤ length seen.old }
+    requires ends_below { Below arcs.n arcs.steps arcs.ends.now }
+    requires blank { AllBelow arcs.n 0 seen.old }
+    ensures { SourcesNoted base arcs.entry.n (into (chains_of arcs.entry)) key.now v seen.old seen.new result }
 {
-    let mut at = first(in_head, v, steps);
-    while 0 < at {
-        let p = at - 1;
-        if note(base, wide(from[p]), key[p], seen) {
-            at = after(in_next, at);
-        } else {
+    for p in arcs.steps_at(v) {
+        if !note(base, usize::from(arcs.ends[p]), key[p], seen) {
             return false;
         }
     }
@@ -120,13 +79,10 @@ fn note(base: u8, u: usize, k: u8, seen: &mut [u16]) -> bool
     requires { u < length seen.old }
     ensures { Noted base u k seen.old seen.new result }
 {
-    if k < base {
+    if k < base || 15 < k - base {
         return true;
     }
     let bit = k - base;
-    if 15 < bit {
-        return true;
-    }
     let entry = seen[u];
     if has_bit(entry, bit) {
         return false;
@@ -136,24 +92,15 @@ fn note(base: u8, u: usize, k: u8, seen: &mut [u16]) -> bool
 }
 
 // Clears what is noted of the steps into v.
-fn clear_sources(
-    n: usize,
-    steps: usize,
-    v: usize,
-    from: &[u16],
-    in_head: &[u16],
-    in_next: &[u16],
-    seen: &mut [u16],
-)
-    requires in_range { (v < n) × (n ≤ length seen.old) × Below n steps from.now }
-    requires walkable { Walkable (chains n steps from.now in_head.now in_next.now) }
-    requires from_sources { FromSources n (into (chains n steps from.now in_head.now in_next.now)) v seen.old }
-    ensures { AllBelow n 0 seen.new × Kept n seen.old seen.new }
+fn clear_sources(arcs: Adjacency, v: usize, seen: &mut [u16])
+    requires in_range { v < arcs.n }
+    requires seen_in_bounds { arcs.n ≤ length seen.old }
+    requires ends_below { Below arcs.n arcs.steps arcs.ends.now }
+    requires from_sources { FromSources arcs.n (into (chains_of arcs)) v seen.old }
+    ensures blank { AllBelow arcs.entry.n 0 seen.new }
+    ensures kept { Kept arcs.entry.n seen.old seen.new }
 {
-    let mut at = first(in_head, v, steps);
-    while 0 < at {
-        let u = wide(from[at - 1]);
-        seen[u] = 0;
-        at = after(in_next, at);
+    for p in arcs.steps_at(v) {
+        seen[usize::from(arcs.ends[p])] = 0;
     }
 }

@@ -1,52 +1,42 @@
 // Whether tables that are long enough fit: states and steps by their entries, then the lists of steps, then that no two steps are
 // equal, then what the statuses claim.
-ghost use Rattle.std.specs.Prelude.{List, [], ℕ, ◌<◌};
-ghost use Rattle.tables.specs.Tables.{tables_of, Long};
-ghost use Rattle.audit.specs.Parts.{Judged};
+ghost use Rattle.std.specs.Prelude.{◌≡◌, ◌↔◌, true, List, [], ℕ, ◌≤◌, length};
+ghost use Rattle.tables.specs.Tables.{visited_length};
+ghost use Rattle.audit.specs.Contents.{contents};
+ghost use Rattle.audit.specs.Parts.{Below, EntriesFit, ListsJudged, Judged};
 
 use super::claims::claims_fit;
 use super::distinct::steps_differ;
 use super::lists::list_fits;
 use super::states::states_fit;
 use super::steps::{keys_fit, steps_fit};
+use super::stored::Stored;
 
-pub fn judge(
-    n: usize,
-    steps: usize,
-    status: &[u8],
-    marks: &[u8],
-    from: &[u16],
-    to: &[u16],
-    key: &[u8],
-    successor: &[u16],
-    in_head: &[u16],
-    out_head: &[u16],
-    queue: &mut [u16],
-    visited: &mut [u16],
-    in_next: &[u16],
-    out_next: &[u16],
-) -> bool
-    requires counts_fit { (0 < n) × (n < 65536) × (steps < 65535) }
-    requires long { Long n n steps (tables_of status.now marks.now from.now to.now key.now successor.now [] in_head.now out_head.now queue.old visited.old in_next.now out_next.now) }
-    ensures { (news : List ℕ) → Judged n steps (tables_of status.now marks.now from.now to.now key.now successor.now news in_head.now out_head.now queue.old visited.old in_next.now out_next.now) result queue.new visited.new }
+pub fn judge(stored: Stored, queue: &mut [u16], visited: &mut [u16]) -> bool
+    requires queue_in_bounds { stored.n ≤ length queue.old }
+    requires visited_in_bounds { visited_length stored.n ≤ length visited.old }
+    ensures { (news : List ℕ) → Judged stored.entry.n stored.entry.steps (contents stored.entry news queue.old visited.old) result queue.new visited.new }
 {
-    if states_fit(
-        n, steps, status, marks, from, successor, in_head, out_head, visited,
-    ) {
-        if steps_fit(n, steps, status, marks, from, to) {
-            if keys_fit(steps, key) {
-                if list_fits(n, steps, to, in_head, in_next, queue) {
-                    if list_fits(n, steps, from, out_head, out_next, queue) {
-                        if steps_differ(n, steps, from, key, in_head, in_next, queue) {
-                            return claims_fit(
-                                n, steps, status, marks, from, successor, in_head, in_next, queue,
-                                visited,
-                            );
-                        }
-                    }
-                }
-            }
-        }
-    }
-    false
+    entries_fit(stored, visited) && lists_fit(stored, queue) && claims_fit(stored, queue, visited)
+}
+
+// Whether the entries of each state, each step and each key fit.
+fn entries_fit(stored: Stored, visited: &[u16]) -> bool
+    requires { visited_length stored.n ≤ length visited.now }
+    ensures { (result ≡ true) ↔ EntriesFit stored.entry.n stored.entry.steps (contents stored.entry [] [] visited.now) }
+{
+    states_fit(stored, visited) && steps_fit(stored) && keys_fit(stored)
+}
+
+// Whether the lists of steps are right, and no two steps are equal.
+fn lists_fit(stored: Stored, queue: &mut [u16]) -> bool
+    requires queue_in_bounds { stored.n ≤ length queue.old }
+    requires from_below { Below stored.n stored.steps stored.from.now }
+    requires to_below { Below stored.n stored.steps stored.to.now }
+    ensures { ListsJudged stored.entry.n stored.entry.steps (contents stored.entry [] queue.old []) queue.new result }
+{
+    let into = stored.into();
+    list_fits(stored.to, into, queue)
+        && list_fits(stored.from, stored.out_of(), queue)
+        && steps_differ(into, stored.key, queue)
 }

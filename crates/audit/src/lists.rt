@@ -1,70 +1,36 @@
 // The lists of steps: whether heads and next entries are those of the step list. A work table holds, for each state, 1 + the last step met
 // so far with that end.
-ghost use Rattle.std.specs.Prelude.{◌≡◌, ◌↔◌, true, ◌≤◌, ◌<◌, length};
+ghost use Rattle.std.specs.Prelude.{◌≤◌, length};
 ghost use Rattle.tables.specs.Fitting.{AllBelow};
-ghost use Rattle.audit.specs.Parts.{Below, Same, ListFits, NextsFit, NextFits};
+ghost use Rattle.audit.specs.Parts.{Below, ListFits, NextsFit};
 
-use tables::{fill, wide};
+use adjacency::Adjacency;
 
-pub fn list_fits(
-    n: usize,
-    steps: usize,
-    ends: &[u16],
-    head: &[u16],
-    next: &[u16],
-    last: &mut [u16],
-) -> bool
-    requires steps_in_bounds { (steps < 65535) × (steps ≤ length ends.now) × (n ≤ length head.now) × (steps ≤ length next.now) × (n ≤ length last.old) }
-    requires ends_below { Below n steps ends.now }
-    ensures { ListFits n steps ends.now head.now next.now last.old last.new result }
+// Whether the steps are chained at these ends.
+pub fn list_fits(ends: &[u16], arcs: Adjacency, last: &mut [u16]) -> bool
+    requires ends_in_bounds { arcs.steps ≤ length ends.now }
+    requires last_in_bounds { arcs.n ≤ length last.old }
+    requires ends_below { Below arcs.n arcs.steps ends.now }
+    ensures { ListFits arcs.entry.n arcs.entry.steps ends.now arcs.entry.head.now arcs.entry.next.now last.old last.new result }
 {
-    fill(last, n, 0);
-    if nexts_fit(n, steps, ends, next, last) {
-        return heads_fit(n, head, last);
-    }
-    false
+    last[..arcs.n].fill(0);
+    nexts_fit(ends, arcs, last) && arcs.head[..arcs.n] == last[..arcs.n]
 }
 
 // Each next entry leads to the last step before with the same end.
-fn nexts_fit(n: usize, steps: usize, ends: &[u16], next: &[u16], last: &mut [u16]) -> bool
-    requires steps_in_bounds { (steps < 65535) × (steps ≤ length ends.now) × (steps ≤ length next.now) × (n ≤ length last.old) }
-    requires ends_below { Below n steps ends.now × AllBelow n 0 last.old }
-    ensures { NextsFit n steps ends.now next.now last.old last.new result }
+fn nexts_fit(ends: &[u16], arcs: Adjacency, last: &mut [u16]) -> bool
+    requires ends_in_bounds { arcs.steps ≤ length ends.now }
+    requires last_in_bounds { arcs.n ≤ length last.old }
+    requires ends_below { Below arcs.n arcs.steps ends.now }
+    requires blank { AllBelow arcs.n 0 last.old }
+    ensures { NextsFit arcs.entry.n arcs.entry.steps ends.now arcs.entry.next.now last.old last.new result }
 {
-    let mut p = 0;
-    while p < steps {
-        if next_fits(p, wide(ends[p]), next, last) {
-            p = p + 1;
-        } else {
+    for p in 0..arcs.steps {
+        let v = usize::from(ends[p]);
+        if arcs.next[p] != last[v] {
             return false;
         }
-    }
-    true
-}
-
-fn next_fits(p: usize, v: usize, next: &[u16], last: &mut [u16]) -> bool
-    requires { (p < 65535) × (p < length next.now) × (v < length last.old) }
-    ensures { NextFits p v next.now last.old last.new result }
-{
-    if next[p] != last[v] {
-        return false;
-    }
-    last[v] = (p + 1) as u16;
-    true
-}
-
-// Each head leads to the last step with that end.
-fn heads_fit(n: usize, head: &[u16], last: &[u16]) -> bool
-    requires { (n ≤ length head.now) × (n ≤ length last.now) }
-    ensures { (result ≡ true) ↔ Same n head.now last.now }
-{
-    let mut v = 0;
-    while v < n {
-        if head[v] == last[v] {
-            v = v + 1;
-        } else {
-            return false;
-        }
+        last[v] = (p + 1) as u16;
     }
     true
 }

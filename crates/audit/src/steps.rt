@@ -2,87 +2,59 @@
 ghost use Rattle.std.specs.Prelude.{◌≡◌, ◌↔◌, true, ◌≤◌, length, get_or};
 ghost use Rattle.audit.specs.Facts.{All, agrees, both_named, key_fits, step_fits};
 
-use tables::{DEAD, LIVE, MAX_KEY, has_named, wide};
+use super::stored::Stored;
+use tables::{DEAD, LIVE, MAX_KEY, Mark};
 
 // Whether each listed step has both ends among the named states, and their statuses agree.
-pub fn steps_fit(
-    n: usize,
-    steps: usize,
-    status: &[u8],
-    marks: &[u8],
-    from: &[u16],
-    to: &[u16],
-) -> bool
-    requires { (n ≤ length status.now) × (n ≤ length marks.now) × (steps ≤ length from.now) × (steps ≤ length to.now) }
-    ensures { (result ≡ true) ↔ All steps (λ p. step_fits n status.now marks.now (get_or from.now p 0) (get_or to.now p 0)) }
+pub fn steps_fit(stored: Stored) -> bool
+    ensures { (result ≡ true) ↔ All stored.entry.steps (λ p. step_fits stored.entry.n stored.entry.status.now stored.entry.marks.now (get_or stored.entry.from.now p 0) (get_or stored.entry.to.now p 0)) }
 {
-    let mut p = 0;
-    while p < steps {
-        if step_fits(n, wide(from[p]), wide(to[p]), status, marks) {
-            p = p + 1;
-        } else {
-            return false;
-        }
-    }
-    true
+    (0..stored.steps).all(|p| step_fits(
+        stored,
+        usize::from(stored.from[p]),
+        usize::from(stored.to[p]),
+    ))
 }
 
-fn step_fits(n: usize, u: usize, v: usize, status: &[u8], marks: &[u8]) -> bool
-    requires { (n ≤ length status.now) × (n ≤ length marks.now) }
-    ensures { result ≡ step_fits n status.now marks.now u v }
+// Whether a step from u to v does.
+#[tactic(auto, unfolding(crate::specs::Facts::step_fits))]
+fn step_fits(stored: Stored, u: usize, v: usize) -> bool
+    ensures { result ≡ step_fits stored.entry.n stored.entry.status.now stored.entry.marks.now u v }
 {
-    if n <= u {
-        return false;
-    }
-    if n <= v {
-        return false;
-    }
-    if both_named(marks[u], marks[v]) {
-        return agrees(status[u], status[v]);
-    }
-    false
+    u < stored.n
+        && v < stored.n
+        && both_named(stored.marks[u], stored.marks[v])
+        && agrees(stored.status[u], stored.status[v])
 }
 
+#[tactic(auto, unfolding(crate::specs::Facts::both_named))]
 fn both_named(source: u8, target: u8) -> bool
     ensures { result ≡ both_named source target }
 {
-    if has_named(source) {
-        return has_named(target);
-    }
-    false
+    Mark::Named.is_set(source) && Mark::Named.is_set(target)
 }
 
 // Whether the source is live where the target is, and the target dead where the source is.
+#[tactic(auto, unfolding(crate::specs::Facts::agrees))]
 fn agrees(source: u8, target: u8) -> bool
     ensures { result ≡ agrees source target }
 {
     if target == LIVE {
         return source == LIVE;
     }
-    if source == DEAD {
-        return target == DEAD;
-    }
-    true
+    source != DEAD || target == DEAD
 }
 
 // Whether each listed key is 0 to 31.
-pub fn keys_fit(steps: usize, key: &[u8]) -> bool
-    requires { steps ≤ length key.now }
-    ensures { (result ≡ true) ↔ All steps (λ p. key_fits (get_or key.now p 0)) }
+pub fn keys_fit(stored: Stored) -> bool
+    ensures { (result ≡ true) ↔ All stored.entry.steps (λ p. key_fits (get_or stored.entry.key.now p 0)) }
 {
-    let mut p = 0;
-    while p < steps {
-        if key_fits(key[p]) {
-            p = p + 1;
-        } else {
-            return false;
-        }
-    }
-    true
+    stored.key[..stored.steps].iter().all(|k| key_fits(*k))
 }
 
+#[tactic(auto, unfolding(crate::specs::Facts::key_fits))]
 fn key_fits(key: u8) -> bool
     ensures { result ≡ key_fits key }
 {
-    key as usize <= MAX_KEY
+    usize::from(key) <= MAX_KEY
 }

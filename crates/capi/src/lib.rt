@@ -1,59 +1,58 @@
 // The calls for C and Rust: thin exports of the library's calls, with the same numbers. include/radvoinis.h declares them.
 #![tactic(auto)]
 
-ghost use Rattle.std.specs.Prelude.{◌≡◌, List, ℕ, ◌+◌, ◌≤◌, cond, leb, length};
+ghost use Rattle.std.specs.Prelude.{◌≡◌, List, ℕ, cond, leb, length};
 ghost use Rattle.std.proofs.Math.Option.{some};
-ghost use Rattle.gid.specs.Refusals.{max_states};
-ghost use Rattle.gid.specs.Outcomes.{by_number};
+ghost use Rattle.tables.specs.Numbers.{number_of};
 ghost use Rattle.tables.specs.Refused.{status_answer};
 ghost use Rattle.tables.specs.Tables.{tables_of};
-ghost use Rattle.engine.specs.Answers.{answer_number, news_count};
 ghost use Rattle.writer.specs.Answering.{write_answer, buffer_after};
-ghost use Rattle.capi.specs.Calls.{kind_by, kind_refusal, Called, code_by, AuditCalled, place_after};
+ghost use Rattle.capi.specs.Calls.{kind_by, kind_refusal, Called, code_by, code_of, AuditCalled, place_after};
 
-use audit::Audit;
-use engine::{Answer, Engine};
+use engine::Engine;
 use gid::{Edge, Update};
-use record::MALFORMED;
-use tables::{Graph, Lengths, Status};
-use writer::Written;
+use tables::{Graph, Lengths, LentTables, Refusal};
 
 // What a refusal adds to its number, so that it differs from every number of news and from every status.
 const REFUSED: u32 = 65536;
 
 // The update that a kind byte, two states and a key say, or none.
-#[derive(Clone, Copy)]
-enum Kind {
-    Known(Update),
-    Unknown,
-}
-
-fn update_of(kind: u8, first: usize, second: usize, by_key: usize) -> Kind
-    ensures { result ≡ kind_by kind first second by_key }
+fn update_of(kind: u8, first: usize, second: usize, key: usize) -> Option<Update>
+    ensures { result ≡ kind_by kind first second key }
 {
     match kind {
-        b'E' => Kind::Known(Update::Step {
+        b'E' => Some(Update::Step {
             edge: Edge {
                 from: first,
                 to: second,
-                key: by_key,
+                key,
             },
         }),
-        b'T' => Kind::Known(Update::Terminal { state: first }),
-        b'C' => Kind::Known(Update::Close { state: first }),
-        _ => Kind::Unknown,
+        b'T' => Some(Update::Terminal { state: first }),
+        b'C' => Some(Update::Close { state: first }),
+        _ => None,
     }
 }
 
-// The number of a kind that is none of E, T and C: that of a malformed line, behind the tests 1 to 4.
-fn refused_kind(graph: Graph, lengths: Lengths) -> u8
-    ensures { kind_refusal graph lengths ≡ some result }
+// The refusal of a kind that is none of E, T and C: that of a malformed line, behind the tests 1 to 4.
+#[tactic(auto, using(crate::proofs::Few::kind_refused, crate::proofs::Few::kind_malformed))]
+fn refused_kind(graph: Graph, lengths: Lengths) -> Refusal
+    ensures { kind_refusal graph lengths ≡ some (number_of result) }
 {
-    let lent = graph.lent(lengths.enough(graph.n, graph.nodes(), graph.limit));
-    if lent != 0 {
-        return lent;
+    match graph.lent(lengths.enough(graph.n, graph.nodes(), graph.limit)) {
+        Ok(()) => Refusal::Malformed,
+        Err(refusal) => refusal,
     }
-    MALFORMED
+}
+
+// What a call answers: the number that it is accepted with, or 65,536 plus that of its refusal.
+fn code(answer: Result<u32, Refusal>) -> u32
+    ensures { result ≡ code_of answer }
+{
+    match answer {
+        Ok(number) => number,
+        Err(refusal) => REFUSED + u32::from(u8::from(refusal)),
+    }
 }
 
 // An update of the given kind (the byte E, T or C) on the caller's tables. Answers the number of its news, or 65,536 plus the number of its refusal; the number of steps is brought up to date.
@@ -82,59 +81,33 @@ pub extern "C" fn radvoinis_update(
 ) -> u32
     ensures { Called n limit steps.old (kind_by kind first second by_key) (tables_of status.old marks.old from.old to.old key.old successor.old news.old in_head.old out_head.old queue.old visited.old in_next.old out_next.old) steps.new (tables_of status.new marks.new from.new to.new key.new successor.new news.new in_head.new out_head.new queue.new visited.new in_next.new out_next.new) result }
 {
-    match update_of(kind, first, second, by_key) {
-        Kind::Unknown => {
-            let graph = Graph {
-                n,
-                limit,
-                steps: *steps,
-            };
-            let lengths = Lengths {
-                status: status.len(),
-                marks: marks.len(),
-                successor: successor.len(),
-                news: news.len(),
-                in_head: in_head.len(),
-                out_head: out_head.len(),
-                queue: queue.len(),
-                visited: visited.len(),
-                from: from.len(),
-                to: to.len(),
-                key: key.len(),
-                in_next: in_next.len(),
-                out_next: out_next.len(),
-            };
-            REFUSED + refused_kind(graph, lengths) as u32
-        }
-        Kind::Known(update) => {
-            let engine = Engine {
-                graph: Graph {
-                    n,
-                    limit,
-                    steps: *steps,
-                },
-            };
-            let done = engine.update(
-                update, status, marks, from, to, key, successor, news, in_head, out_head, queue,
-                visited, in_next, out_next,
-            );
-            let graph = done.engine.graph;
-            *steps = graph.steps;
-            let answer = done.answer;
-            answer_code(answer)
-        }
-    }
-}
-
-// The number of news, or that of a refusal.
-fn answer_code(answer: Answer) -> u32
-    requires { news_count answer ≤ max_states }
-    ensures { result ≡ code_by (λ k. k) (by_number (answer_number answer) (news_count answer)) }
-{
-    match answer {
-        Answer::Accepted(count) => count as u32,
-        Answer::Refused(number) => REFUSED + number as u32,
-    }
+    let graph = Graph {
+        n,
+        limit,
+        steps: *steps,
+    };
+    let mut tables = LentTables {
+        status,
+        marks,
+        from,
+        to,
+        key,
+        successor,
+        news,
+        in_head,
+        out_head,
+        queue,
+        visited,
+        in_next,
+        out_next,
+    };
+    let Some(update) = update_of(kind, first, second, by_key) else {
+        return code(Err(refused_kind(graph, tables.lengths())));
+    };
+    let mut engine = Engine { graph };
+    let answer = engine.update(update, &mut tables);
+    *steps = engine.graph.steps;
+    code(answer.map(|count| count as u32))
 }
 
 // The status question. Answers the state's byte, or 65,536 plus the number of a refusal.
@@ -149,10 +122,7 @@ pub extern "C" fn radvoinis_state_status(
     ensures { result ≡ code_by (λ b. b) (status_answer (record { n = n; limit = limit; steps = steps }) status.now state) }
 {
     let graph = Graph { n, limit, steps };
-    match graph.status(status, state) {
-        Status::Byte(byte) => byte as u32,
-        Status::Refused(number) => REFUSED + number as u32,
-    }
+    code(graph.status(status, state).map(u32::from))
 }
 
 // The length of the news part: the first `count` entries of the news list, none where `count` is above its length.
@@ -160,8 +130,7 @@ pub extern "C" fn radvoinis_state_status(
 pub extern "C" fn radvoinis_news_len(news: &[u16], count: usize) -> usize
     ensures { result ≡ cond (leb count (length news.now)) count 0 }
 {
-    let part = engine::news_part(news, count);
-    part.len()
+    engine::news_part(news, count).len()
 }
 
 // The table check. Answers 1 where the tables fit and 0 where they do not, or 65,536 plus the number of a refusal. The queue and the visited marks alone are written, below n.
@@ -186,14 +155,11 @@ pub extern "C" fn radvoinis_audit(
     ensures { (news : List ℕ) → AuditCalled (record { n = n; limit = limit; steps = steps }) (tables_of status.now marks.now from.now to.now key.now successor.now news in_head.now out_head.now queue.old visited.old in_next.now out_next.now) result queue.new visited.new }
 {
     let graph = Graph { n, limit, steps };
-    match audit::audit(
+    let answer = audit::audit(
         graph, status, marks, from, to, key, successor, in_head, out_head, queue, visited, in_next,
         out_next,
-    ) {
-        Audit::Fits => 1,
-        Audit::Unfit => 0,
-        Audit::Refused(number) => REFUSED + number as u32,
-    }
+    );
+    code(answer.map(u32::from))
 }
 
 // The record writer. Answers 0, the place brought to the one after the last byte, or 65,536 plus the number of a refusal.
@@ -209,16 +175,16 @@ pub extern "C" fn radvoinis_write(
     buf: &mut [u8],
     at: &mut usize,
 ) -> u32
-    ensures { (result ≡ code_by (λ place. 0) (write_answer (record { n = n; limit = limit; steps = steps }) marks.now from.now to.now key.now buf.old at.old))
-        × (at.new ≡ place_after (write_answer (record { n = n; limit = limit; steps = steps }) marks.now from.now to.now key.now buf.old at.old) at.old)
-        × (buf.new ≡ buffer_after (record { n = n; limit = limit; steps = steps }) marks.now from.now to.now key.now buf.old at.old) }
+    ensures answer { result ≡ code_by (λ place. 0) (write_answer (record { n = n; limit = limit; steps = steps }) marks.now from.now to.now key.now buf.old at.old) }
+    ensures place { at.new ≡ place_after (write_answer (record { n = n; limit = limit; steps = steps }) marks.now from.now to.now key.now buf.old at.old) at.old }
+    ensures buffer { buf.new ≡ buffer_after (record { n = n; limit = limit; steps = steps }) marks.now from.now to.now key.now buf.old at.old }
 {
     let graph = Graph { n, limit, steps };
     match writer::write(graph, marks, from, to, key, buf, *at) {
-        Written::End(end) => {
+        Ok(end) => {
             *at = end;
             0
         }
-        Written::Refused(number) => REFUSED + number as u32,
+        Err(refusal) => code(Err(refusal)),
     }
 }

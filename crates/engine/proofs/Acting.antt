@@ -1,10 +1,9 @@
 -- From what the parts of an accepted update do to what the whole does: what is listed, its marks and names, the state that it makes live or puts in danger, and its near way out.
 -- Assumes nothing.
-use mathlib.Core.Path.{◌≡◌, refl, ◌∙◌, ap, subst}
-use mathlib.Core.Logic.{inl, inr}
+use mathlib.Core.Path.{◌≡◌, refl, ◌∙◌, ap}
 use mathlib.Core.Bool.{Bool, true, false, cond}
 use mathlib.Core.List.{List}
-use Prim.Native.Nat.{ℕ, ◌+◌, ◌-◌, ◌≤◌, ◌<◌}
+use Prim.Native.Nat.{ℕ, ◌+◌, ◌≤◌, ◌<◌}
 use native.Mathlib.Omega.{arith}
 use lib.Dec.{eqb}
 use lib.ListN.{get_or, set}
@@ -13,12 +12,11 @@ use Rattle.gid.specs.declared.Update.{Update}
 use Rattle.gid.specs.declared.Update.TheVariants.{Step, Terminal, Close}
 use Rattle.gid.specs.Updates.{source}
 use Rattle.gid.specs.Statuses.{status_live}
-use Rattle.gid.specs.Systems.{Arcs}
-use Rattle.tables.specs.Marks.{with_named}
+use Rattle.tables.specs.Marks.{with_named, closes_again}
+use Rattle.tables.specs.Refused.{is_again}
 use Rattle.adjacency.specs.Walks.{Pushed}
-use Rattle.search.specs.Escaping.{Escape, Near}
 use Rattle.engine.specs.Effects.{mark_at, set_marks, name_at, names_after}
-use Rattle.engine.specs.Preparing.{status_again, marks_again, InRange, KeyBelow, Free}
+use Rattle.engine.specs.Preparing.{status_again, marks_again, InRange, KeyBelow}
 use Rattle.engine.specs.Judging.{unless_live, quickened, endangered}
 use Rattle.engine.specs.Done.{Listed, pushed, same}
 
@@ -27,16 +25,6 @@ pub source_below : (n : ℕ) (x : Update) → InRange n x → source x < n
 source_below n (Step e) s = s.0
 source_below n (Terminal u) s = s
 source_below n (Close u) s = s
-
--- What is known of an update, where it is known which it is.
-pub in_range_as : (n : ℕ) {x y : Update} → x ≡ y → InRange n x → InRange n y
-in_range_as n e h = subst (λ (x : Update). InRange n x) e h
-
-pub key_below_as : (n : ℕ) {x y : Update} → x ≡ y → KeyBelow n x → KeyBelow n y
-key_below_as n e h = subst (λ (x : Update). KeyBelow n x) e h
-
-pub free_as : (m : ℕ) (l : List ℕ) {x y : Update} → x ≡ y → Free m x l → Free m y l
-free_as m l e h = subst (λ (x : Update). Free m x l) e h
 
 -- A step is listed,
 pub listed_one : (m : ℕ) (e : Edge) {from to key in_head out_head in_next out_next in_head' out_head' in_next' out_next' : List ℕ} → Pushed out_head out_next e.from m out_head' out_next' → Pushed in_head in_next e.to m in_head' in_next' → Listed m (Step e) from to key in_head out_head in_next out_next (set from m e.from) (set to m e.to) (set key m e.key) in_head' out_head' in_next' out_next'
@@ -55,6 +43,13 @@ names_none (Step e) status marks n = absurd (n e refl)
 names_none (Terminal u) status marks n = (refl, refl)
 names_none (Close u) status marks n = (refl, refl)
 
+-- An update that is no step comes again where it closes a closed state.
+pub again_closes : (x : Update) (marks : List ℕ) (has : Edge → Bool) → ((e : Edge) → x ≡ Step e → ⊥) → closes_again x marks ≡ is_again x marks has
+unfolding is_again
+again_closes (Step e) marks has n = absurd (n e refl)
+again_closes (Terminal u) marks has n = refl
+again_closes (Close u) marks has n = refl
+
 -- The marks of both ends of a step,
 pub marks_both : (marks : List ℕ) (e : Edge) {marks₁ marks₂ : List ℕ} → marks₁ ≡ mark_at with_named e.from marks → marks₂ ≡ mark_at with_named e.to marks₁ → marks₂ ≡ set_marks (Step e) marks
 marks_both marks e f g = g ∙ ap (mark_at with_named e.to) f
@@ -62,10 +57,6 @@ marks_both marks e f g = g ∙ ap (mark_at with_named e.to) f
 -- and their statuses.
 pub names_both : (status : List ℕ) (e : Edge) {status₁ status₂ : List ℕ} → status₁ ≡ name_at e.from status → status₂ ≡ name_at e.to status₁ → status₂ ≡ names_after (Step e) status
 names_both status e f g = g ∙ ap (name_at e.to) f
-
--- A name, then another mark.
-pub marks_then : (f : ℕ → ℕ) (marks : List ℕ) (u : ℕ) {marks₁ : List ℕ} {r : ℕ} → marks₁ ≡ mark_at with_named u marks → r ≡ f (get_or marks₁ u 0) → set marks₁ u r ≡ mark_at f u (mark_at with_named u marks)
-marks_then f marks u e g = rw (g, e)
 
 -- The states of an update and its key are below a larger bound too.
 pub in_range_wider : (m n : ℕ) (x : Update) → m ≤ n → InRange m x → InRange n x
@@ -83,7 +74,8 @@ unless_below : (n s : ℕ) (b : Bool) (u : ℕ) → s < n → cond b 0 (s + 1) �
 unless_below n s true u h e = omega arith
 unless_below n s false u h e = omega arith
 
-quickened_below : (n : ℕ) (x : Update) (status : List ℕ) (u : ℕ) → InRange n x → quickened x status ≡ u + 1 → u < n
+-- The state from which life spreads, and the one that is closed and not live.
+pub quickened_below : (n : ℕ) (x : Update) (status : List ℕ) (u : ℕ) → InRange n x → quickened x status ≡ u + 1 → u < n
 unfolding quickened
 quickened_below n (Step e) status u h k = at (eqb (get_or status e.to 0) status_live) k
   where
@@ -93,27 +85,8 @@ quickened_below n (Step e) status u h k = at (eqb (get_or status e.to 0) status_
 quickened_below n (Terminal s) status u h k = unless_below n s (eqb (get_or status s 0) status_live) u h k
 quickened_below n (Close s) status u h k = omega arith
 
-endangered_below : (n : ℕ) (x : Update) (status : List ℕ) (u : ℕ) → InRange n x → endangered x status ≡ u + 1 → u < n
+pub endangered_below : (n : ℕ) (x : Update) (status : List ℕ) (u : ℕ) → InRange n x → endangered x status ≡ u + 1 → u < n
 unfolding endangered
 endangered_below n (Step e) status u h k = omega arith
 endangered_below n (Terminal s) status u h k = omega arith
 endangered_below n (Close s) status u h k = unless_below n s (eqb (get_or status s 0) status_live) u h k
-
--- The state that an answer names, and that it is below n: from which life spreads,
-pub quickened_state : (n : ℕ) (x : Update) (status : List ℕ) {r : ℕ} → InRange n x → r ≡ quickened x status → 0 < r → (quickened x status ≡ (r - 1) + 1) × (r - 1 < n)
-quickened_state n x status {r} h e k =
-    let q : quickened x status ≡ (r - 1) + 1 = omega arith in
-    (q, quickened_below n x status (r - 1) h q)
-
--- and that is closed and not live.
-pub endangered_state : (n : ℕ) (x : Update) (status : List ℕ) {r : ℕ} → InRange n x → r ≡ endangered x status → (r ≡ 0 → ⊥) → (endangered x status ≡ (r - 1) + 1) × (r - 1 < n)
-endangered_state n x status {r} h e d =
-    let q : endangered x status ≡ (r - 1) + 1 = omega arith in
-    (q, endangered_below n x status (r - 1) h q)
-
--- The arc that a near escape found.
-pub escape_found : (n : ℕ) (Out Follow : Arcs) (status successor : List ℕ) (u : ℕ) {r : ℕ} → Escape n Out Follow status successor u r → 0 < r → (t : ℕ) × Out u (r - 1) t × Near n Follow status successor t
-escape_found n Out Follow status successor u (inl e) h = absurd (omega arith)
-escape_found n Out Follow status successor u {r} (inr w) h =
-    let q : r - 1 ≡ w.0 = omega (arith, w.2) in
-    (w.1, rw q w.3, w.4)

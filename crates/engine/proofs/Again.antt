@@ -31,8 +31,8 @@ use Rattle.tables.proofs.Bits.{bits, byte, decides_closed_mark}
 use Rattle.tables.proofs.Keeping.{kept_none, tables_same}
 use Rattle.tables.proofs.Listed.{listed_same}
 use Rattle.tables.proofs.Refusing.{accepted_again}
-use Rattle.engine.specs.declared.Answer.{Answer}
-use Rattle.engine.specs.declared.Answer.TheVariants.{Accepted, Refused}
+use Rattle.engine.specs.Answers.{Answer}
+use Rattle.std.specs.Prelude.{Ok as Accepted, Err as Refused}
 use Rattle.engine.specs.Answers.{answer_number, news_count}
 use Rattle.engine.specs.Effects.{mark_at, named_byte, name_at, only_named}
 use Rattle.engine.specs.Preparing.{InRange, status_again, marks_again}

@@ -20,8 +20,8 @@ use Rattle.tables.specs.declared.Graph.{Graph}
 use Rattle.tables.specs.Tables.{Tables, lengths, long_enough}
 use Rattle.tables.specs.Refused.{refusal_on}
 use Rattle.tables.specs.Fitting.{Checked, Consistent, Fresh}
-use Rattle.engine.specs.declared.Answer.{Answer}
-use Rattle.engine.specs.declared.Answer.TheVariants.{Accepted}
+use Rattle.engine.specs.Answers.{Answer}
+use Rattle.std.specs.Prelude.{Ok as Accepted}
 use Rattle.engine.specs.Answers.{answer_number, news_of}
 use Rattle.engine.specs.Promise.{AcceptedUpdate, Promise, Sendable}
 use Rattle.engine.specs.Runs.{Run, Agree}

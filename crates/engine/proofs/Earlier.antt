@@ -17,8 +17,10 @@ use Rattle.tables.specs.Earlier.{by_entry}
 use Rattle.tables.specs.Fitting.{CheckedBy, FreshBy, Fresh}
 use Rattle.tables.proofs.Marking.{ClearAtZero, zeros_unvisited, zeros_unvisited_earlier}
 use Rattle.tables.proofs.Sizes.{news_enough, earlier_enough}
-use Rattle.engine.specs.declared.Answer.{Answer}
-use Rattle.engine.specs.declared.Answer.TheVariants.{Accepted, Refused}
+use Rattle.tables.specs.declared.refusal.Refusal.{Refusal}
+use Rattle.tables.specs.Numbers.{number_of}
+use Rattle.engine.specs.Answers.{Answer}
+use Rattle.std.specs.Prelude.{Ok as Accepted, Err as Refused}
 use Rattle.engine.specs.Answers.{news_of, answer_outcome}
 use Rattle.engine.specs.Promise.{PromiseBy}
 use Rattle.engine.specs.Runs.{RunBy, Run, begun, accepted, refused}
@@ -62,31 +64,32 @@ module _
     -- What the runs so far have, those with one more update have, if both calls accept it or both refuse it; one call cannot do the one and the other the other.
     module _
         {xs : List Update} {h q : History} {g g' : Graph} {t t' : Tables} (first : RunBy one g₀ t₀ xs h g t) (second : RunBy other g₁ t₁ xs q g' t') (i : (q ≡ h) × Matches g₀.n first second)
-        {g₂ g₂' : Graph} {t₂ t₂' t₃ t₃' : Tables} (c : CheckedBy one g t t₂) (d : CheckedBy other g' t' t₂') (x : Update) {k j : ℕ}
+        {g₂ g₂' : Graph} {t₂ t₂' t₃ t₃' : Tables} (c : CheckedBy one g t t₂) (d : CheckedBy other g' t' t₂') (x : Update)
       where
         both_accept :
-            (p : PromiseBy one g x t₂ g₂ (Accepted k) t₃) (o : PromiseBy other g' x t₂' g₂' (Accepted j) t₃') →
+            {k j : ℕ} (p : PromiseBy one g x t₂ g₂ (Accepted k) t₃) (o : PromiseBy other g' x t₂' g₂' (Accepted j) t₃') →
             ((x ∷ q) ≡ (x ∷ h)) × Matches g₀.n (accepted first c x k p) (accepted second d x j o)
-        both_accept p o =
+        both_accept {k} {j} p o =
             let e = same_told first second i.0 c d x p o in
             let w : news_of (Accepted k) t₃.news ≡ news_of (Accepted j) t₃'.news = cc in
             let z = ap (λ (f : History). x ∷ f) i.0 in
             (z, (i.1, same_count first second i.0 c d x p o w, w, same_statuses (accepted first c x k p) (accepted second d x j o) z))
 
         both_refuse :
-            (p : PromiseBy one g x t₂ g₂ (Refused k) t₃) (o : PromiseBy other g' x t₂' g₂' (Refused j) t₃') →
-            (q ≡ h) × Matches g₀.n (refused first c x k p) (refused second d x j o)
-        both_refuse p o =
+            {r s : Refusal} (p : PromiseBy one g x t₂ g₂ (Refused r) t₃) (o : PromiseBy other g' x t₂' g₂' (Refused s) t₃') →
+            (q ≡ h) × Matches g₀.n (refused first c x r p) (refused second d x s o)
+        both_refuse {r} {s} p o =
             let e = same_told first second i.0 c d x p o in
-            (i.0, (i.1, cc, same_statuses (refused first c x k p) (refused second d x j o) i.0))
+            let z : number_of r ≡ number_of s = cc in
+            (i.0, (i.1, z, same_statuses (refused first c x r p) (refused second d x s o) i.0))
 
-        no_second_refusal : PromiseBy one g x t₂ g₂ (Accepted k) t₃ → PromiseBy other g' x t₂' g₂' (Refused j) t₃' → ⊥
+        no_second_refusal : {k : ℕ} {s : Refusal} → PromiseBy one g x t₂ g₂ (Accepted k) t₃ → PromiseBy other g' x t₂' g₂' (Refused s) t₃' → ⊥
         no_second_refusal p o =
             let e = same_told first second i.0 c d x p o in
             let z : ◌≡◌ {A = ℕ} 0 1 = cc in
             omega arith
 
-        no_first_refusal : PromiseBy one g x t₂ g₂ (Refused k) t₃ → PromiseBy other g' x t₂' g₂' (Accepted j) t₃' → ⊥
+        no_first_refusal : {r : Refusal} {j : ℕ} → PromiseBy one g x t₂ g₂ (Refused r) t₃ → PromiseBy other g' x t₂' g₂' (Accepted j) t₃' → ⊥
         no_first_refusal p o =
             let e = same_told first second i.0 c d x p o in
             let z : ◌≡◌ {A = ℕ} 0 1 = cc in

@@ -1,6 +1,6 @@
 -- What an update that is done keeps, on tables with any contents: lengths, the entries past the needed ones, and the entries behind the news.
 -- Assumes nothing.
-use mathlib.Core.Path.{◌≡◌, refl, sym, ◌∙◌}
+use mathlib.Core.Path.{◌≡◌, refl, ◌∙◌}
 use mathlib.Core.Bool.{Bool, true, false, ◌&&◌}
 use mathlib.Core.List.Memᴰ
 use mathlib.Core.List.{List, map}
@@ -33,9 +33,9 @@ use Rattle.engine.specs.Effects.{mark_at, set_marks, name_at, named_byte, names_
 use Rattle.engine.specs.Preparing.{InRange, Storable}
 use Rattle.engine.specs.Judging.{Judged, quiet, revived, nears, swept, unknown_at, followed_by, begun_with}
 use Rattle.engine.specs.Done.{Done, Chained, pushed, same}
-use Rattle.engine.specs.declared.Answer.TheVariants.{Accepted}
+use Rattle.std.specs.Prelude.{Ok as Accepted}
 use Rattle.engine.specs.Promise.{NewsKept}
-use Rattle.engine.proofs.Acting.{quickened_state, endangered_state}
+use Rattle.engine.proofs.Acting.{quickened_below, endangered_below}
 use Rattle.engine.proofs.Preparing.{storable_range}
 
 -- What a search keeps of the tables that it writes.
@@ -122,16 +122,13 @@ module _ {u : ℕ} {v q v' q' : List ℕ} {starts : Span} (n : ℕ) (range : u <
 kept_judged : {n : ℕ} {Into Out Follow : Arcs} (x : Update) → InRange n x → {b a : SearchTables} {k : ℕ} → Judged n Into Out Follow x b a k → KeptSearch n b a k
 kept_judged x r (quiet p q e z) = kept_same e z
 kept_judged {n} x r {b = b} (revived u p starts v q begun w) =
-    let i = (quickened_state n x b.status {r = u + 1} r (sym p) (omega arith)).1 in
-    let h : u < n = omega arith in
+    let h = quickened_below n x b.status u r p in
     kept_behind {b = b} {b' = begun_with v q b} (kept_none n b.status) (kept_none n b.successor) (begun_visits n h begun) (begun_queues n h begun) refl (kept_revives w)
 kept_judged {n} x r {b = b} (nears u i t p l near e z) =
-    let j = (endangered_state n x b.status {r = u + 1} r (sym p) (λ d. omega arith)).1 in
-    let h : u < n = omega arith in
+    let h = endangered_below n x b.status u r p in
     kept_behind {b = b} {b' = followed_by u i (unknown_at u b)} (kept_set n b.status u status_unknown h) (kept_set n b.successor u i h) (kept_none (visited_length n) b.visited) (kept_none n b.queue) refl (kept_same e z)
 kept_judged {n} x r {b = b} (swept u p starts v q begun w) =
-    let j = (endangered_state n x b.status {r = u + 1} r (sym p) (λ d. omega arith)).1 in
-    let h : u < n = omega arith in
+    let h = endangered_below n x b.status u r p in
     kept_behind {b = b} {b' = begun_with v q (unknown_at u b)} (kept_set n b.status u status_unknown h) (kept_none n b.successor) (begun_visits n h begun) (begun_queues n h begun) refl (kept_sweeps w)
 
 kept_mark : (n : ℕ) (f : ℕ → ℕ) (u : ℕ) (l : List ℕ) → u < n → Kept n l (mark_at f u l)

@@ -24,9 +24,11 @@ use Rattle.tables.specs.Refused.{is_full, given, is_again, none_listed, refusal_
 use Rattle.tables.specs.Fitting.{Consistent}
 use Rattle.tables.proofs.Bits.{decides_closed_mark}
 use Rattle.tables.proofs.Sizes.{long-enough}
-use Rattle.tables.proofs.Refusing.{passed, neither, lent_leaves, refused_lent, refused_sent, refused_full, accepted_again, accepted_new, sent_passes}
+use Rattle.tables.specs.declared.refusal.Refusal.{Refusal}
+use Rattle.tables.specs.Numbers.{number_of}
+use Rattle.tables.proofs.Refusing.{number_positive, passed, neither, lent_leaves, refused_lent, refused_sent, refused_full, accepted_again, accepted_new, sent_passes}
 use Rattle.tables.proofs.Listed.{listed_same}
-use Rattle.engine.specs.declared.Answer.TheVariants.{Accepted, Refused}
+use Rattle.std.specs.Prelude.{Ok as Accepted, Err as Refused}
 use Rattle.search.specs.Spreading.{chains, into, out_of, Walkable}
 use Rattle.search.specs.Escaping.{toward}
 use Rattle.engine.specs.Effects.{set_marks, names_after}
@@ -145,22 +147,22 @@ done_of t t' x m l e f j = record { marks = m; listed = l; judged = rw (e, f) at
 
 module _ (g : Graph) (x : Update) (t : Tables) where
   -- a refusal, by the caller's tests or by the explorer's
-  refusal_kept : (k : ℕ) → refusal_on g t x ≡ some k → Promise g x t g (Refused k) t
-  refusal_kept k e = record { number = sym e; refuses = λ j q. (refl, refl, refl); accepts = λ q. absurd (let z : ◌≡◌ {A = ℕ} 0 1 = cc in omega arith) }
+  refusal_kept : (r : Refusal) → refusal_on g t x ≡ some (number_of r) → Promise g x t g (Refused r) t
+  refusal_kept r e = record { number = sym e; refuses = λ j q. (refl, refl, refl); accepts = λ q. absurd (let z : ◌≡◌ {A = ℕ} 0 1 = cc in omega arith) }
 
-  pub lent_kept : (k : ℕ) → lent_number g (long_enough g t) ≡ k → (k ≡ 0 → ⊥) → Promise g x t g (Refused k) t
-  lent_kept k e n = refusal_kept k (refused_lent g t x k e n)
+  pub lent_kept : (r : Refusal) → lent_number g (long_enough g t) ≡ number_of r → Promise g x t g (Refused r) t
+  lent_kept r e = refusal_kept r (refused_lent g t x (number_of r) e (number_positive r))
 
   module _ (lent : lent_number g (long_enough g t) ≡ 0) where
-    pub sent_kept : (k : ℕ) → sent_number g t.marks x ≡ k → (k ≡ 0 → ⊥) → Promise g x t g (Refused k) t
-    sent_kept k e n = refusal_kept k (refused_sent g t x lent k e n)
+    pub sent_kept : (r : Refusal) → sent_number g t.marks x ≡ number_of r → Promise g x t g (Refused r) t
+    sent_kept r e = refusal_kept r (refused_sent g t x lent (number_of r) e (number_positive r))
 
     module _ (e : sent_number g t.marks x ≡ 0) where
       room : Room g.n (nodes_of g) g.limit g.steps t
       room = room_of g t lent
 
-      pub full_kept : (k : ℕ) → is_again x t.marks (listed_on g t) ≡ false → place_number (is_full g) x ≡ k → (k ≡ 0 → ⊥) → Promise g x t g (Refused k) t
-      full_kept k a q n = refusal_kept k (refused_full g t x lent e k a q n)
+      pub full_kept : (r : Refusal) → is_again x t.marks (listed_on g t) ≡ false → place_number (is_full g) x ≡ number_of r → Promise g x t g (Refused r) t
+      full_kept r a q = refusal_kept r (refused_full g t x lent e (number_of r) a q (number_positive r))
 
       -- an update that comes again and names its states keeps the promise
       pub again_kept : is_again x t.marks (listed_on g t) ≡ true → Promise g x t g (Accepted 0) (renamed x t)

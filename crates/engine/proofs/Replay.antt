@@ -25,7 +25,7 @@ use Rattle.tables.specs.Fitting.{ConsistentBy}
 use Rattle.tables.proofs.Bits.{closed_same}
 use Rattle.tables.proofs.Listed.{listed_same}
 use Rattle.tables.proofs.Refusing.{neither}
-use Rattle.engine.specs.declared.Answer.{Answer}
+use Rattle.engine.specs.Answers.{Answer}
 use Rattle.engine.specs.Answers.{answer_number, news_of, answer_outcome}
 use Rattle.engine.specs.Promise.{PromiseBy}
 use Rattle.engine.proofs.Running.{SoundBy, sound_accepted}

@@ -29,20 +29,22 @@ use Rattle.tables.proofs.Listed.{listed_same}
 use Rattle.tables.proofs.Marking.{ClearAtZero, zeros_unvisited}
 use Rattle.tables.proofs.Refusing.{NoneApply, none_applies, first_none, accepted_passes_by}
 use Rattle.tables.proofs.Starting.{fresh_consistent}
-use Rattle.engine.specs.declared.Answer.{Answer}
-use Rattle.engine.specs.declared.Answer.TheVariants.{Accepted, Refused}
+use Rattle.tables.specs.declared.refusal.Refusal.{Refusal}
+use Rattle.tables.specs.Numbers.{number_of}
+use Rattle.engine.specs.Answers.{Answer}
+use Rattle.std.specs.Prelude.{Ok as Accepted, Err as Refused}
 use Rattle.engine.specs.Promise.{AcceptedUpdateBy, PromiseBy, Sendable}
 use Rattle.engine.specs.Runs.{RunBy, Run, begun, accepted, refused}
 use Rattle.engine.proofs.Acting.{source_below}
 use Rattle.engine.proofs.Promising.{passed_of}
 
 -- What an accepting and a refusing answer tell.
-module _ {form : Marking} {g : Graph} {x : Update} {t : Tables} {g' : Graph} {t' : Tables} {k : ℕ} where
-  pub was_accepted : PromiseBy form g x t g' (Accepted k) t' → (refusal_by form.entries g t x ≡ none) × AcceptedUpdateBy form g x t g' t' (Accepted k)
+module _ {form : Marking} {g : Graph} {x : Update} {t : Tables} {g' : Graph} {t' : Tables} where
+  pub was_accepted : {k : ℕ} → PromiseBy form g x t g' (Accepted k) t' → (refusal_by form.entries g t x ≡ none) × AcceptedUpdateBy form g x t g' t' (Accepted k)
   was_accepted p = (sym p.number, p.accepts (sym p.number))
 
-  pub was_refused : PromiseBy form g x t g' (Refused k) t' → (refusal_by form.entries g t x ≡ some k) × (g' ≡ g) × (t' ≡ t)
-  was_refused p = let r = p.refuses k (sym p.number) in (sym p.number, r.1, r.2)
+  pub was_refused : {r : Refusal} → PromiseBy form g x t g' (Refused r) t' → (refusal_by form.entries g t x ≡ some (number_of r)) × (g' ≡ g) × (t' ≡ t)
+  was_refused {r} p = let q = p.refuses (number_of r) (sym p.number) in (sym p.number, q.1, q.2)
 
 -- what an accepted update adds has a place
 pub steps_room : (g : Graph) (x : Update) (marks : List ℕ) (has : Edge → Bool) → g.steps ≤ g.limit → cond (is_again x marks has) 0 (place_number (is_full g) x) ≡ 0 → g.steps + length (added has x) ≤ g.limit

@@ -25,7 +25,7 @@ use Rattle.tables.specs.Tables.{Tables, enough, needs, lengths, long_enough}
 use Rattle.tables.specs.Refused.{refusal_on}
 use Rattle.tables.specs.Fitting.{Fresh}
 use Rattle.tables.proofs.Refusing.{lent_leaves, accepted_passes}
-use Rattle.engine.specs.declared.Answer.TheVariants.{Accepted}
+use Rattle.std.specs.Prelude.{Ok as Accepted}
 use Rattle.engine.specs.Answers.{news_of}
 use Rattle.engine.specs.Preparing.{InRange, KeyBelow}
 use Rattle.engine.specs.Promise.{Promise, Sendable}

@@ -1,6 +1,6 @@
 -- What an accepted update does to the tables that a search writes, on tables with any contents: life spreads from its state, or the search for the dead runs from it, or nothing is settled.
 -- Assumes nothing.
-use Rattle.std.specs.Prelude.{◌≡◌, cond, List, ℕ, ◌+◌, eqb, get_or, set}
+use Rattle.std.specs.Prelude.{◌≡◌, cond, List, ℕ, ◌+◌, eqb, get_or, set, Option, Some, None}
 use Rattle.gid.specs.declared.Update.{Update}
 use Rattle.gid.specs.declared.Update.TheVariants.{Step, Terminal, Close}
 use Rattle.gid.specs.Statuses.{status_unknown, status_live}
@@ -9,6 +9,11 @@ use Rattle.search.specs.declared.spread.Span.{Span}
 use Rattle.search.specs.Offering.{Begun}
 use Rattle.search.specs.Escaping.{Near}
 use Rattle.search.specs.Searches.{SearchTables, Revives, Sweeps}
+
+-- 1 + the state that there is, or 0 for none.
+abbrev pub numbered : Option ℕ → ℕ
+numbered None = 0
+numbered (Some s) = s + 1
 
 -- 1 + a state that is not live, or 0.
 abbrev pub unless_live : ℕ → List ℕ → ℕ

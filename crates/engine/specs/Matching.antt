@@ -6,7 +6,8 @@ use Rattle.gid.specs.Histories.{History}
 use Rattle.tables.specs.declared.Graph.{Graph}
 use Rattle.tables.specs.Tables.{Tables}
 use Rattle.tables.specs.Visits.{Marking}
-use Rattle.engine.specs.declared.Answer.TheVariants.{Accepted}
+use Rattle.tables.specs.Numbers.{number_of}
+use Rattle.std.specs.Prelude.{Ok as Accepted}
 use Rattle.engine.specs.Answers.{news_of}
 use Rattle.engine.specs.Runs.{RunBy, begun, accepted, refused}
 
@@ -21,6 +22,6 @@ abbrev pub Matches :
 Matches n begun begun = Unit {0}
 Matches n (accepted {t' = a} first c x k p) (accepted {t' = b} second _ _ j _) =
     Matches n first second × (k ≡ j) × (news_of (Accepted k) a.news ≡ news_of (Accepted j) b.news) × SameStatuses n a b
-Matches n (refused {t' = a} first c x k p) (refused {t' = b} second _ _ j _) = Matches n first second × (k ≡ j) × SameStatuses n a b
+Matches n (refused {t' = a} first c x r p) (refused {t' = b} second _ _ q _) = Matches n first second × (number_of r ≡ number_of q) × SameStatuses n a b
 Matches n (accepted first c x k p) (refused second _ _ j _) = ⊥
 Matches n (refused first c x k p) (accepted second _ _ j _) = ⊥

@@ -17,7 +17,7 @@ use Rattle.tables.specs.Keeping.{Kept, KeptTablesBy}
 use Rattle.tables.specs.Listing.{listed_on, added_on, from_after, to_after, key_after, graph_after}
 use Rattle.tables.specs.Refused.{refusal_by}
 use Rattle.tables.specs.Fitting.{ConsistentBy}
-use Rattle.engine.specs.declared.Answer.{Answer}
+use Rattle.engine.specs.Answers.{Answer}
 use Rattle.engine.specs.Answers.{answer_number, news_count, news_of}
 use Rattle.engine.specs.Effects.{marks_after, only_named}
 

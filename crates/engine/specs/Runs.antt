@@ -8,7 +8,8 @@ use Rattle.tables.specs.declared.Graph.{Graph}
 use Rattle.tables.specs.Tables.{Tables}
 use Rattle.tables.specs.Visits.{Marking, by_bit}
 use Rattle.tables.specs.Fitting.{CheckedBy}
-use Rattle.engine.specs.declared.Answer.TheVariants.{Accepted, Refused}
+use Rattle.tables.specs.declared.refusal.Refusal.{Refusal}
+use Rattle.std.specs.Prelude.{Ok as Accepted, Err as Refused}
 use Rattle.engine.specs.Answers.{news_of}
 use Rattle.engine.specs.Promise.{PromiseBy}
 
@@ -20,7 +21,7 @@ pub data RunBy (form : Marking) (g₀ : Graph) (t₀ : Tables) : List Update →
       (x : Update) (k : ℕ) → PromiseBy form g x t₁ g' (Accepted k) t' → RunBy form g₀ t₀ (x ∷ xs) (x ∷ h) g' t'
   refused :
       {xs : List Update} {h : History} {g g' : Graph} {t t₁ t' : Tables} → RunBy form g₀ t₀ xs h g t → CheckedBy form g t t₁ →
-      (x : Update) (k : ℕ) → PromiseBy form g x t₁ g' (Refused k) t' → RunBy form g₀ t₀ (x ∷ xs) h g' t'
+      (x : Update) (r : Refusal) → PromiseBy form g x t₁ g' (Refused r) t' → RunBy form g₀ t₀ (x ∷ xs) h g' t'
 
 -- So of the engine, whose marks are bits.
 abbrev pub Run : Graph → Tables → List Update → History → Graph → Tables → Type 0

@@ -2,20 +2,15 @@
 #![tactic(auto)]
 
 ghost use Rattle.std.specs.Prelude.{◌≡◌, length, take, leb, cond, []};
-ghost use Rattle.tables.specs.Tables.{tables_of};
+ghost use Rattle.tables.specs.Lending.{contents, StillLent};
 ghost use Rattle.engine.specs.Promise.{Promise};
 
 mod accept;
 
+use adjacency::{Adjacency, BothWays};
 use gid::Update;
-use tables::{Graph, Lengths, place_number};
-
-// What an update answers: accepted, with the number of its news, or refused, with document 01's number.
-#[derive(Clone, Copy)]
-pub enum Answer {
-    Accepted(usize),
-    Refused(u8),
-}
+use steplist::Steps;
+use tables::{Graph, LentTables, Refusal};
 
 // The state value of document 01, as the one whose updates run on the caller's tables.
 #[derive(Clone, Copy)]
@@ -23,107 +18,71 @@ pub struct Engine {
     pub graph: Graph,
 }
 
-// The new state value beside the answer.
-#[derive(Clone, Copy)]
-pub struct Updated {
-    pub engine: Engine,
-    pub answer: Answer,
-}
-
 impl Engine {
-    // Makes one update on the tables. Refused, or a close of a closed state, it changes nothing and returns the state value as it came; so
+    // Makes one update on the tables, and answers the number of its news. Refused, or a close of a closed state, it changes nothing; nor
     // does a repeated step, but for naming its states.
-    pub fn update(
-        self,
-        update: Update,
-        status: &mut [u8],
-        marks: &mut [u8],
-        from: &mut [u16],
-        to: &mut [u16],
-        key: &mut [u8],
-        successor: &mut [u16],
-        news: &mut [u16],
-        in_head: &mut [u16],
-        out_head: &mut [u16],
-        queue: &mut [u16],
-        visited: &mut [u16],
-        in_next: &mut [u16],
-        out_next: &mut [u16],
-    ) -> Updated
-        ensures { Promise self.graph update (tables_of status.old marks.old from.old to.old key.old successor.old news.old in_head.old out_head.old queue.old visited.old in_next.old out_next.old) result.engine.graph result.answer (tables_of status.new marks.new from.new to.new key.new successor.new news.new in_head.new out_head.new queue.new visited.new in_next.new out_next.new) }
+    pub fn update(&mut self, update: Update, tables: &mut LentTables) -> Result<usize, Refusal>
+        ensures still_lent { StillLent tables.old tables.new }
+        ensures promise { Promise self.old.graph update (contents tables.old) self.new.graph result (contents tables.new) }
     {
         let graph = self.graph;
-        let lengths = Lengths {
-            status: status.len(),
-            marks: marks.len(),
-            successor: successor.len(),
-            news: news.len(),
-            in_head: in_head.len(),
-            out_head: out_head.len(),
-            queue: queue.len(),
-            visited: visited.len(),
-            from: from.len(),
-            to: to.len(),
-            key: key.len(),
-            in_next: in_next.len(),
-            out_next: out_next.len(),
-        };
-        let n = graph.n;
-        let limit = graph.limit;
-        let steps = graph.steps;
-        let lent = graph.lent(lengths.enough(n, graph.nodes(), limit));
-        if lent != 0 {
-            return Updated {
-                engine: self,
-                answer: Answer::Refused(lent),
-            };
-        }
-        let sent = graph.sent(update, marks);
-        if sent != 0 {
-            return Updated {
-                engine: self,
-                answer: Answer::Refused(sent),
-            };
-        }
-        if accept::comes_again(update, steps, marks, from, to, key, out_head, out_next) {
-            accept::name_again(update, status, marks);
-            return Updated {
-                engine: self,
-                answer: Answer::Accepted(0),
-            };
-        }
-        let full = place_number(graph.is_full(), update);
-        if full != 0 {
-            return Updated {
-                engine: self,
-                answer: Answer::Refused(full),
-            };
-        }
-        accept::list(
-            update, steps, from, to, key, in_head, out_head, in_next, out_next,
-        );
-        accept::mark(update, status, marks);
-        let after = graph.after(update);
-        let count = accept::judge(
-            update,
-            n,
-            after.steps,
-            status,
+        let lengths = tables.lengths();
+        graph.lent(lengths.enough(graph.n, graph.nodes(), graph.limit))?;
+        let status = &mut *tables.status;
+        let marks = &mut *tables.marks;
+        let from = &mut *tables.from;
+        let to = &mut *tables.to;
+        let key = &mut *tables.key;
+        let successor = &mut *tables.successor;
+        let news = &mut *tables.news;
+        let in_head = &mut *tables.in_head;
+        let out_head = &mut *tables.out_head;
+        let queue = &mut *tables.queue;
+        let visited = &mut *tables.visited;
+        let in_next = &mut *tables.in_next;
+        let out_next = &mut *tables.out_next;
+        graph.sent(update, marks)?;
+        let steps = Steps {
+            len: graph.steps,
             from,
             to,
-            successor,
-            news,
+            key,
+        };
+        if accept::comes_again(update, marks, steps, out_head, out_next) {
+            accept::name_again(update, status, marks);
+            return Ok(0);
+        }
+        graph.has_place(update)?;
+        accept::list(
+            update,
+            graph.steps,
+            from,
+            to,
+            key,
             in_head,
             out_head,
-            queue,
-            visited,
             in_next,
             out_next,
         );
-        Updated {
-            engine: Engine { graph: after },
-            answer: Answer::Accepted(count),
-        }
+        accept::mark(update, status, marks);
+        self.graph = graph.after(update);
+        let arcs = BothWays {
+            into: Adjacency {
+                n: graph.n,
+                steps: self.graph.steps,
+                ends: from,
+                head: in_head,
+                next: in_next,
+            },
+            out_of: Adjacency {
+                n: graph.n,
+                steps: self.graph.steps,
+                ends: to,
+                head: out_head,
+                next: out_next,
+            },
+        };
+        Ok(accept::judge(update, arcs, status, successor, news, queue, visited))
     }
 }
 
@@ -131,8 +90,5 @@ impl Engine {
 pub fn news_part(news: &[u16], count: usize) -> &[u16]
     ensures { result.now ≡ cond (leb count (length news.now)) (take count news.now) [] }
 {
-    if count <= news.len() {
-        return &news[..count];
-    }
-    &news[..0]
+    news.get(..count).unwrap_or(&[])
 }

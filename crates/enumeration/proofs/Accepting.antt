@@ -4,7 +4,7 @@ use mathlib.Core.Path.{◌≡◌, refl, ◌∙◌, ap}
 use mathlib.Core.Logic.{inl}
 use mathlib.Core.Bool.{Bool, true, false, cond}
 use mathlib.Core.List.Memᴰ
-use mathlib.Core.List.{[], ◌∷◌}
+use mathlib.Core.List.{List, [], ◌∷◌}
 use mathlib.Core.Option.{none}
 use Prim.Native.Nat.{ℕ, ◌<◌, ◌≤◌}
 use native.Mathlib.Omega.{arith}
@@ -18,15 +18,13 @@ use Rattle.tables.specs.declared.Graph.{Graph}
 use Rattle.gid.specs.Successors.{no_successor}
 use Rattle.tables.specs.Tables.{Tables, tables_of, visited_length, long_enough}
 use Rattle.tables.specs.Fitting.{AllBelow, Fresh}
-use Rattle.engine.specs.declared.Answer.{Answer}
-use Rattle.engine.specs.declared.Answer.TheVariants.{Accepted, Refused}
-use Rattle.engine.specs.Answers.{answer_number}
+use Rattle.std.specs.Prelude.{Ok as Accepted, Err as Refused}
+use Rattle.engine.specs.Answers.{Answer, answer_number}
 use Rattle.engine.specs.Promise.{Promise, Sendable}
 use Rattle.engine.specs.Runs.{Run, begun, accepted, refused}
 use Rattle.engine.proofs.Running.{unchecked, sound, sound_checked}
 use Rattle.engine.proofs.Earlier.{still_long}
 use Rattle.engine.proofs.Demands.{demand_1}
-use Rattle.enumeration.specs.declared.sending.StatusPair.{StatusPair}
 use Rattle.enumeration.specs.Small.{SmallUpdate, SmallHistory}
 use Rattle.enumeration.specs.Sending.{Sends, start, StatusesAfter}
 use Rattle.enumeration.specs.Ranking.{unranked}
@@ -50,9 +48,9 @@ lent_tables =
     tables_of (replicate 2 0) (replicate 2 0) (replicate 3 0) (replicate 3 0) (replicate 3 0) (replicate 2 no_successor) (replicate 2 0)
     (replicate 2 0) (replicate 2 0) (replicate 2 0) (replicate 1 0) (replicate 3 0) (replicate 3 0)
 
-pub sent_statuses : {h : History} {g : Graph} {t : Tables} → Sends h start lent_tables g t → StatusesAfter h (record { first = get_or t.status 0 0; second = get_or t.status 1 0 })
+pub sent_statuses : {h : History} {g : Graph} {t : Tables} → {s : List ℕ} → Sends h start lent_tables g t → s ≡ t.status → StatusesAfter h s
 unfolding visited_length
-sent_statuses {g = g} {t = t} s =
+sent_statuses {g = g} {t = t} s e =
     record {
       lent = lent_tables;
       fresh =
@@ -72,8 +70,8 @@ sent_statuses {g = g} {t = t} s =
       graph = g;
       tables = t;
       sent = s;
-      first = refl;
-      second = refl;
+      first = ap (λ l. get_or l 0 0) e;
+      second = ap (λ l. get_or l 1 0) e;
     }
   where
     all : (n v : ℕ) → AllBelow n v (replicate n v)
@@ -116,7 +114,7 @@ module _ {t₀ : Tables} (fresh : Fresh start t₀) (long : long_enough start t�
       absurd (let b : ◌≡◌ {A = ℕ} 0 1 = cc in omega arith)
 
 -- "the two final status digits": the statuses of the definition.
-pub statuses_right : {h : History} {r : StatusPair} → SmallHistory h → StatusesAfter h r → (r.first ≡ status h 0) × (r.second ≡ status h 1)
+pub statuses_right : {h : History} {r : List ℕ} → SmallHistory h → StatusesAfter h r → (get_or r 0 0 ≡ status h 0) × (get_or r 1 0 ≡ status h 1)
 statuses_right {h} s a =
     let e = accepts_all a.fresh a.long s.legal s.short s.small a.sent.1 in
     let w = sound a.fresh a.sent.1 in

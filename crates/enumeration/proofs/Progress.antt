@@ -10,11 +10,12 @@ use lib.ListN.{length, set, length-append}
 use Rattle.gid.specs.News.{below}
 use Rattle.record.specs.Text.{decimal, WroteAt}
 use Rattle.record.proofs.Decimals.{five_digits}
-use Rattle.record.proofs.Placing.{placed_none, placed_on, placed_then, placed_byte}
-use Rattle.enumeration.specs.declared.lines.Enumerated.{Enumerated}
+use Rattle.record.specs.declared.text.TextBuffer.{TextBuffer}
+use Rattle.record.specs.Putting.{Puts}
+use Rattle.record.proofs.Putting.{puts_none, puts_then}
 use Rattle.enumeration.specs.Ranking.{unranked, is_legal, legal_ranks, rank_count, histories}
 use Rattle.enumeration.specs.Lines.{history_text, histories_text, enumeration_text, enumeration_room, Enumerates}
-use Rattle.enumeration.specs.Parts.{history_room, EnumeratesRank, legal, passed, EnumeratesBelow}
+use Rattle.enumeration.specs.Parts.{history_room, EnumeratesBelow}
 use Rattle.enumeration.proofs.Counting.{ranks_counted}
 
 -- one line more
@@ -41,39 +42,37 @@ ranks_few (suc m) = omega (arith, length-append (legal_ranks m) (cond (is_legal 
     one true = omega arith
     one false = omega arith
 
-pub lists_none : (output : List ℕ) → EnumeratesBelow 0 output output (record { end = 0; count = 0 })
+pub lists_none : (b : TextBuffer) → b.end ≤ length b.buf.now → EnumeratesBelow 0 b b 0
 unfolding below histories_text
-lists_none output = record { wrote = placed_none 0 output; counted = refl; room = omega arith }
+lists_none b h = record { puts = puts_none b h; counted = refl; room = omega arith }
 
-pub lists_more : (m : ℕ) {output before after : List ℕ} {a b : Enumerated} → EnumeratesBelow m output before a → EnumeratesRank m a before after b → history_room * (m + 1) ≤ length output → EnumeratesBelow (m + 1) output after b
-lists_more m l (legal e w r n) h =
-    record {
-      wrote = rw (ranks_legal m e, lines_more (legal_ranks m) m) (placed_on l.wrote w (omega (arith, l.room)));
-      counted = n ∙ (rw (ranks_legal m e, length-append (legal_ranks m) (m ∷ []), l.counted));
-      room = omega (arith, l.room);
-    }
-lists_more m l (passed e o s) h =
-    record {
-      wrote = rw (ranks_passed m e, o, s) l.wrote;
-      counted = rw (ranks_passed m e, s) l.counted;
-      room = rw s (omega (arith, l.room));
-    }
+module _ (m : ℕ) {b p : TextBuffer} {k : ℕ} (l : EnumeratesBelow m b p k) where
+  pub lists_legal : {q : TextBuffer} → is_legal (unranked m) ≡ true → Puts (history_text (unranked m)) p q → q.end ≤ p.end + history_room → EnumeratesBelow (m + 1) b q (k + 1)
+  lists_legal e w r =
+      record {
+        puts = rw (ranks_legal m e, lines_more (legal_ranks m) m) (puts_then l.puts w);
+        counted = rw (ranks_legal m e, length-append (legal_ranks m) (m ∷ []), l.counted) refl;
+        room = omega (arith, l.room, r);
+      }
+
+  pub lists_passed : is_legal (unranked m) ≡ false → EnumeratesBelow (m + 1) b p k
+  lists_passed e =
+      record {
+        puts = rw (ranks_passed m e) l.puts;
+        counted = rw (ranks_passed m e) l.counted;
+        room = omega (arith, l.room);
+      }
 
 -- The count has room behind the lines.
-pub count_room : {output output' : List ℕ} {r : Enumerated} → EnumeratesBelow rank_count output output' r → enumeration_room ≤ length output → r.end + length (decimal r.count) < length output
-count_room {r = r} l h = omega (arith, l.room, five_digits r.count (omega (arith, l.counted, ranks_few rank_count)))
+pub count_room : {b p : TextBuffer} {k : ℕ} → EnumeratesBelow rank_count b p k → b.end + enumeration_room ≤ length b.buf.now → p.end + length (decimal k) < length p.buf.now
+count_room {k = k} l h = omega (arith, l.room, l.puts.size, five_digits k (omega (arith, l.counted, ranks_few rank_count)))
 
 -- The lines, the count and a newline are the listing.
-pub enumeration_placed : {output lines counted : List ℕ} {r : Enumerated} {k : ℕ} → EnumeratesBelow rank_count output lines r → WroteAt r.end (decimal r.count) lines counted k → enumeration_room ≤ length output → Enumerates output (set counted k 10) (k + 1)
+pub enumeration_placed : {output output' : List ℕ} {k end : ℕ} → k ≡ length (legal_ranks rank_count) → WroteAt 0 ((histories_text (map unranked (legal_ranks rank_count)) ++ decimal k) ++ (10 ∷ [])) output output' end → enumeration_room ≤ length output → Enumerates output output' end
 unfolding enumeration_text histories
-enumeration_placed {output} {lines} {counted} {r} {k} l w h =
+enumeration_placed {k = k} c w h =
     let all = histories_text (map unranked (legal_ranks rank_count)) in
-    let z = count_room l h in
-    let t = l.wrote.after in
     record {
       short = λ s. absurd (omega arith);
-      whole =
-          λ s.
-          rw (← ranks_counted, ← l.counted, ← append_assoc all (decimal r.count) (10 ∷ []))
-          (placed_byte 0 (all ++ decimal r.count) output counted k 10 (placed_then 0 all (decimal r.count) output lines counted r.end k l.wrote w (omega arith)) (omega (arith, length-append all (decimal r.count))));
+      whole = λ s. rw (← ranks_counted, ← c, ← append_assoc all (decimal k) (10 ∷ [])) w;
     }

@@ -6,7 +6,7 @@ use mathlib.Core.List.Memᴰ
 use mathlib.Core.List.{List, [], ◌∷◌, ◌++◌, append_assoc}
 use Prim.Native.Nat.{ℕ, ◌+◌, ◌*◌, ◌-◌, ◌<◌, ◌≤◌}
 use native.Mathlib.Omega.{arith}
-use lib.ListN.{length, take, drop, set, length-append}
+use lib.ListN.{get_or, length, take, drop, set, length-append}
 use lib.Seq.{set_at, length-take-le}
 use Rattle.gid.specs.declared.Update.{Update}
 use Rattle.gid.specs.declared.Update.TheVariants.{Step, Terminal, Close}
@@ -16,10 +16,11 @@ use Rattle.gid.proofs.Statuses.{Classified, as_live, as_dead, as_unknown, as_ope
 use Rattle.record.specs.declared.line.Form.TheVariants.{Keyed}
 use Rattle.record.specs.Text.{text, WroteAt}
 use Rattle.record.proofs.Decimals.{decimal_digit}
-use Rattle.record.proofs.Placing.{placed_then}
+use Rattle.record.specs.declared.text.TextBuffer.{TextBuffer}
+use Rattle.record.specs.Putting.{Puts}
+use Rattle.record.proofs.Putting.{puts_then}
 use Rattle.record.proofs.Writing.{step_length, mark_length}
 use Rattle.enumeration.specs.Small.{SmallUpdate}
-use Rattle.enumeration.specs.declared.sending.StatusPair.{StatusPair}
 use Rattle.enumeration.specs.Ranking.{unranked, is_legal, rank_count}
 use Rattle.enumeration.specs.Lines.{comma_terminated, comma_separated, history_text}
 use Rattle.enumeration.specs.Sending.{StatusesAfter}
@@ -71,18 +72,13 @@ terminated_room i h = ap length (terminated_ranked i h) ∙ ended_room (comma_te
 pub separated_room : (i : ℕ) → 0 < i → length (comma_separated (unranked i)) ≡ length (comma_terminated (unranked (older_of i))) + length (text Keyed (newest_of i))
 separated_room i h = ap length (separated_ranked i h) ∙ length-append (comma_terminated (unranked (older_of i))) (text Keyed (newest_of i))
 
--- The newest update, written behind those before it.
-ended_placed : {at r k : ℕ} {t d e f : List ℕ} (u : List ℕ) (b : ℕ) → WroteAt at t d e r → WroteAt r (u ++ (b ∷ [])) e f k → at + (length t + length u + 1) ≤ length d → WroteAt at (t ++ (u ++ (b ∷ []))) d f k
-ended_placed {at} {r} {k} {t} {d} {e} {f} u b w v h = placed_then at t (u ++ (b ∷ [])) d e f r k w v (omega (arith, length-append u (b ∷ [])))
+module _ {p q r : TextBuffer} (i j : ℕ) (x : Update) (h : 0 < i) (older : j ≡ older_of i) (newest : x ≡ newest_of i) (w : Puts (comma_terminated (unranked j)) p q) where
+  pub terminated_placed : Puts (text Keyed x ++ (44 ∷ [])) q r → Puts (comma_terminated (unranked i)) p r
+  terminated_placed v = rw (terminated_ranked i h, ← older, ← newest) (puts_then w v)
 
-module _ {at r k : ℕ} {d e f : List ℕ} (i j : ℕ) (x : Update) (h : 0 < i) (older : j ≡ older_of i) (newest : x ≡ newest_of i) (w : WroteAt at (comma_terminated (unranked j)) d e r) where
-  pub terminated_placed : WroteAt r (text Keyed x ++ (44 ∷ [])) e f k → at + length (comma_terminated (unranked i)) ≤ length d → WroteAt at (comma_terminated (unranked i)) d f k
-  terminated_placed v p = rw (terminated_ranked i h, ← older, ← newest) (ended_placed (text Keyed x) 44 w v (rw (older, newest) (omega (arith, terminated_room i h))))
-
-  pub separated_placed : WroteAt r (text Keyed x ++ (58 ∷ [])) e f k → at + length (comma_separated (unranked i)) < length d → WroteAt at (comma_separated (unranked i) ++ (58 ∷ [])) d f k
-  separated_placed v p =
-      rw (separated_ranked i h, append_assoc (comma_terminated (unranked (older_of i))) (text Keyed (newest_of i)) (58 ∷ []), ← older, ← newest)
-      (ended_placed (text Keyed x) 58 w v (rw (older, newest) (omega (arith, separated_room i h))))
+  pub separated_placed : Puts (text Keyed x ++ (58 ∷ [])) q r → Puts (comma_separated (unranked i) ++ (58 ∷ [])) p r
+  separated_placed v =
+      rw (separated_ranked i h, append_assoc (comma_terminated (unranked (older_of i))) (text Keyed (newest_of i)) (58 ∷ []), ← older, ← newest) (puts_then w v)
 
 -- An update over two states has seven bytes,
 text_small : (x : Update) → SmallUpdate x → length (text Keyed x) ≡ 7
@@ -123,13 +119,8 @@ status_few h s = at (status h s) (classified h s)
     at k (as_unseen e _) = omega arith
 
 -- The line of a history: its updates with a colon, and the digits of its statuses.
-pub line_placed : {at k m : ℕ} {d e f : List ℕ} (i : ℕ) (r : StatusPair) → i < rank_count → is_legal (unranked i) ≡ true → StatusesAfter (unranked i) r → WroteAt at (comma_separated (unranked i) ++ (58 ∷ [])) d e k → WroteAt k ((48 + r.first) ∷ (48 + r.second) ∷ 10 ∷ []) e f m → at + history_room ≤ length d → WroteAt at (history_text (unranked i)) d f m × (m ≤ at + history_room)
+pub line_placed : {p q s : TextBuffer} (i : ℕ) (r : List ℕ) → i < rank_count → is_legal (unranked i) ≡ true → StatusesAfter (unranked i) r → Puts (comma_separated (unranked i) ++ (58 ∷ [])) p q → Puts ((48 + get_or r 0 0) ∷ (48 + get_or r 1 0) ∷ 10 ∷ []) q s → Puts (history_text (unranked i)) p s
 unfolding history_text
-line_placed {at} {k} {m} {d} {e} {f} i r l q a w v h =
-    let s = statuses_right (small_ranked i l q) a in
-    let j = separated_few i l in
-    let c = length-append (comma_separated (unranked i)) (58 ∷ []) in (
-      rw (← s.0, ← s.1, ← append_assoc (comma_separated (unranked i)) (58 ∷ []) ((48 + r.first) ∷ (48 + r.second) ∷ 10 ∷ []))
-          (placed_then at (comma_separated (unranked i) ++ (58 ∷ [])) ((48 + r.first) ∷ (48 + r.second) ∷ 10 ∷ []) d e f k m w v (omega arith)),
-      omega (arith, w.after, v.after),
-    )
+line_placed i r l e a w v =
+    let s = statuses_right (small_ranked i l e) a in
+    rw (← s.0, ← s.1, ← append_assoc (comma_separated (unranked i)) (58 ∷ []) ((48 + get_or r 0 0) ∷ (48 + get_or r 1 0) ∷ 10 ∷ [])) (puts_then w v)

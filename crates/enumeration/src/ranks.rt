@@ -13,19 +13,17 @@ pub const RANKS: usize = 585;
 fn update_at(place: usize) -> Update
     ensures { result ≡ update_at place }
 {
-    if place < 4 {
-        return Update::Step {
+    match place {
+        0..=3 => Update::Step {
             edge: Edge {
                 from: place / 2,
                 to: place % 2,
                 key: 0,
             },
-        };
+        },
+        4..=5 => Update::Terminal { state: place - 4 },
+        _ => Update::Close { state: place - 6 },
     }
-    if place < 6 {
-        return Update::Terminal { state: place - 4 };
-    }
-    Update::Close { state: place - 6 }
 }
 
 // The newest update of a history, and the rank of those before it.
@@ -47,13 +45,7 @@ pub fn older(rank: usize) -> usize
 pub fn is_legal(rank: usize) -> bool
     ensures { result ≡ is_legal (unranked rank) }
 {
-    if rank == 0 {
-        return true;
-    }
-    if may_follow(older(rank), newest(rank)) {
-        return is_legal(older(rank));
-    }
-    false
+    rank == 0 || may_follow(older(rank), newest(rank)) && is_legal(older(rank))
 }
 
 fn may_follow(rank: usize, update: Update) -> bool
@@ -62,7 +54,7 @@ fn may_follow(rank: usize, update: Update) -> bool
     match update {
         Update::Step { edge } => is_unclosed(rank, edge.from),
         Update::Terminal { state } => is_unclosed(rank, state),
-        Update::Close { state: _ } => true,
+        Update::Close { .. } => true,
     }
 }
 
@@ -70,21 +62,11 @@ fn may_follow(rank: usize, update: Update) -> bool
 fn is_unclosed(rank: usize, state: usize) -> bool
     ensures { result ≡ not (is_closed (unranked rank) state) }
 {
-    if rank == 0 {
-        return true;
-    }
-    if closes(newest(rank), state) {
-        return false;
-    }
-    is_unclosed(older(rank), state)
+    rank == 0 || !closes(newest(rank), state) && is_unclosed(older(rank), state)
 }
 
 fn closes(update: Update, state: usize) -> bool
     ensures { result ≡ is_close_of update state }
 {
-    match update {
-        Update::Step { edge: _ } => false,
-        Update::Terminal { state: _ } => false,
-        Update::Close { state: closed } => closed == state,
-    }
+    matches!(update, Update::Close { state: closed } if closed == state)
 }

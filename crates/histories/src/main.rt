@@ -8,18 +8,19 @@ use enumeration::ROOM;
 use reader::Task;
 use std::env::FillError;
 use std::rt::Env;
-use streams::Served;
+use streams::{Served, Streams};
 
 fn main(rt: HostRuntime) {
-    let errors = rt.stderr();
-    // Counted by their bytes, since a word need not be text.
+    // Counted by their bytes, since a word need not be text. Each program counts by itself: no contract could say what a call for it counts.
     let words = (0..usize::MAX)
         .take_while(|&i| !matches!(rt.arg(i, &mut [0u8; 1]), Err(FillError::NotPresent)))
         .count();
-    if streams::told_usage(
-        &rt,
-        &errors,
-        b"radvoinis-histories",
+    let streams = Streams {
+        rt: &rt,
+        errors: &rt.stderr(),
+        program: b"radvoinis-histories",
+    };
+    if streams.told_usage(
         b"usage: radvoinis-histories\n\
           Lists every legal history of at most three updates over two states, with the\n\
           status of each state after it; at the end, how many there are. It reads no input\n\
@@ -28,25 +29,14 @@ fn main(rt: HostRuntime) {
     ) {
         return;
     }
-    let mut output = [0u8; ROOM];
-    write_histories(&rt, &errors, &mut output);
+    write_histories(&streams, &mut [0; ROOM]);
 }
 
 // The text is written at once, as the last of a program that reads nothing.
-fn write_histories(rt: &(impl Input + Print), errors: &impl Print, output: &mut [u8]) -> Served
+fn write_histories<R: Input + Print, E: Print>(streams: &Streams<R, E>, output: &mut [u8]) -> Served
     requires { enumeration_room ≤ length output.old }
     ensures { take (length enumeration_text) output.new ≡ enumeration_text }
 {
     let end = enumeration::enumerate(output);
-    let mut input = [0u8; 1];
-    streams::serve(
-        rt,
-        errors,
-        b"radvoinis-histories",
-        Task::End,
-        end,
-        0,
-        &mut input,
-        output,
-    )
+    streams.serve(Task::End, end, 0, &mut [0; 1], output)
 }

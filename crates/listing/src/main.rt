@@ -1,25 +1,52 @@
 // The listing program: reads a record on standard input, and writes its listing to standard output. What is read and written next, and when it is over, the library decides.
 #![tactic(auto)]
 
-ghost use Rattle.std.specs.Prelude.{◌≡◌, true, ◌≤◌, length};
+ghost use Rattle.std.specs.Prelude.{◌≡◌, ◌≤◌, length};
 ghost use Rattle.std.proofs.Math.Option.{none};
-ghost use Rattle.tables.specs.Tables.{tables_of};
+ghost use Rattle.tables.specs.Lending.{contents, StillLent};
 ghost use Rattle.reader.specs.Opening.{open_refusal};
 ghost use Rattle.reader.specs.Reading.{record_limit};
 ghost use Rattle.report.specs.Lister.{lister_room};
+ghost use Rattle.report.specs.Progress.{ListingProgress};
 ghost use Rattle.listing.specs.Ending.{EndsListing};
 
-use reader::RECORD_LIMIT;
+use reader::{RECORD_LIMIT, Task};
 use report::Lister;
 use std::env::FillError;
 use std::rt::Env;
-use streams::Served;
-use tables::{MAX_STATES, MAX_VISITED};
+use streams::{Drive, Streams};
+use tables::{LentTables, MAX_STATES, MAX_VISITED};
 
 // The bytes of the input that are read at once, and those of the output that are written at once.
 const INPUT: usize = 65536;
 
 const OUTPUT: usize = 131072;
+
+// What the program does with the bytes that it reads.
+#[derive(Clone, Copy)]
+struct Listing {
+    lister: Lister,
+}
+
+impl Drive for Listing {
+    ghost task = { λ s. s.lister.task };
+
+    ghost end = { λ s. s.lister.end };
+
+    ghost stands = { λ got put s piece output t. ListingProgress got put s.lister piece output t };
+
+    fn task(&self) -> Task {
+        self.lister.task
+    }
+
+    fn end(&self) -> usize {
+        self.lister.end
+    }
+
+    fn go_on(&mut self, piece: &[u8], output: &mut [u8], tables: &mut LentTables) {
+        self.lister.list(piece, output, tables);
+    }
+}
 
 // Where a listing ended, and whether its last text was written.
 #[derive(Clone, Copy)]
@@ -29,15 +56,16 @@ struct ListingEnd {
 }
 
 fn main(rt: HostRuntime) {
-    let errors = rt.stderr();
-    // Counted by their bytes, since a word need not be text.
+    // Counted by their bytes, since a word need not be text. Each program counts by itself: no contract could say what a call for it counts.
     let words = (0..usize::MAX)
         .take_while(|&i| !matches!(rt.arg(i, &mut [0u8; 1]), Err(FillError::NotPresent)))
         .count();
-    if streams::told_usage(
-        &rt,
-        &errors,
-        b"radvoinis-listing",
+    let streams = Streams {
+        rt: &rt,
+        errors: &rt.stderr(),
+        program: b"radvoinis-listing",
+    };
+    if streams.told_usage(
         b"usage: radvoinis-listing <RECORD\n\
           Reads a record of updates and lists, line by line, the states that an update\n\
           settles as live or dead and the numbers of refusals; at the end, how many states\n\
@@ -46,116 +74,49 @@ fn main(rt: HostRuntime) {
     ) {
         return;
     }
-    list_record(&rt, &errors);
+    list_record(&streams);
 }
 
-fn list_record(rt: &(impl Input + Print), errors: &impl Print) {
-    let mut status = [0u8; MAX_STATES];
-    let mut marks = [0u8; MAX_STATES];
-    let mut from = [0u16; RECORD_LIMIT];
-    let mut to = [0u16; RECORD_LIMIT];
-    let mut key = [0u8; RECORD_LIMIT];
-    let mut successor = [0u16; MAX_STATES];
-    let mut news = [0u16; MAX_STATES];
-    let mut in_head = [0u16; MAX_STATES];
-    let mut out_head = [0u16; MAX_STATES];
-    let mut queue = [0u16; MAX_STATES];
-    let mut visited = [0u16; MAX_VISITED];
-    let mut in_next = [0u16; RECORD_LIMIT];
-    let mut out_next = [0u16; RECORD_LIMIT];
-    let mut input = [0u8; INPUT];
-    let mut output = [0u8; OUTPUT];
+fn list_record<R: Input + Print, E: Print>(streams: &Streams<R, E>) {
     list_input(
-        rt,
-        errors,
-        &mut input,
-        &mut output,
-        &mut status,
-        &mut marks,
-        &mut from,
-        &mut to,
-        &mut key,
-        &mut successor,
-        &mut news,
-        &mut in_head,
-        &mut out_head,
-        &mut queue,
-        &mut visited,
-        &mut in_next,
-        &mut out_next,
+        streams,
+        &mut [0; INPUT],
+        &mut [0; OUTPUT],
+        &mut LentTables {
+            status: &mut [0; MAX_STATES],
+            marks: &mut [0; MAX_STATES],
+            from: &mut [0; RECORD_LIMIT],
+            to: &mut [0; RECORD_LIMIT],
+            key: &mut [0; RECORD_LIMIT],
+            successor: &mut [0; MAX_STATES],
+            news: &mut [0; MAX_STATES],
+            in_head: &mut [0; MAX_STATES],
+            out_head: &mut [0; MAX_STATES],
+            queue: &mut [0; MAX_STATES],
+            visited: &mut [0; MAX_VISITED],
+            in_next: &mut [0; RECORD_LIMIT],
+            out_next: &mut [0; RECORD_LIMIT],
+        },
     );
 }
 
-// Nothing says that an input ends, so the turns are counted, up to a number that no run reaches.
-fn list_input(
-    rt: &(impl Input + Print),
-    errors: &impl Print,
+fn list_input<R: Input + Print, E: Print>(
+    streams: &Streams<R, E>,
     input: &mut [u8],
     output: &mut [u8],
-    status: &mut [u8],
-    marks: &mut [u8],
-    from: &mut [u16],
-    to: &mut [u16],
-    key: &mut [u8],
-    successor: &mut [u16],
-    news: &mut [u16],
-    in_head: &mut [u16],
-    out_head: &mut [u16],
-    queue: &mut [u16],
-    visited: &mut [u16],
-    in_next: &mut [u16],
-    out_next: &mut [u16],
+    tables: &mut LentTables,
 ) -> ListingEnd
-    requires { (lister_room ≤ length output.old) × (open_refusal record_limit ((tables_of status.old marks.old from.old to.old key.old successor.old news.old in_head.old out_head.old queue.old visited.old in_next.old out_next.old)) ≡ none) }
-    ensures { EndsListing result output.new ((tables_of status.new marks.new from.new to.new key.new successor.new news.new in_head.new out_head.new queue.new visited.new in_next.new out_next.new)) }
+    requires room { lister_room ≤ length output.old }
+    requires opens { open_refusal record_limit (contents tables.old) ≡ none }
+    ensures still_lent { StillLent tables.old tables.new }
+    ensures ends { EndsListing result output.new (contents tables.new) }
 {
-    let mut lister = report::begin(
-        output, status, marks, from, to, key, successor, news, in_head, out_head, queue, visited,
-        in_next, out_next,
-    );
-    let mut count = 0;
-    for _ in 0..u64::MAX {
-        let task = lister.task;
-        let end = lister.end;
-        let served = streams::serve(
-            rt,
-            errors,
-            b"radvoinis-listing",
-            task,
-            end,
-            count,
-            input,
-            output,
-        );
-        let Served::Piece(len) = served else {
-            return ListingEnd {
-                lister,
-                over: served.is_over(),
-            };
-        };
-        let next = report::list(
-            lister,
-            &input[..len],
-            output,
-            status,
-            marks,
-            from,
-            to,
-            key,
-            successor,
-            news,
-            in_head,
-            out_head,
-            queue,
-            visited,
-            in_next,
-            out_next,
-        );
-        lister = next;
-        count = len;
-    }
+    let mut listing = Listing {
+        lister: Lister::begin(output, tables),
+    };
+    let over = streams.drive(&mut listing, input, output, tables);
     ListingEnd {
-        lister,
-        over: false,
+        lister: listing.lister,
+        over,
     }
 }

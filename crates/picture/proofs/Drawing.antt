@@ -1,16 +1,18 @@
--- The texts of the picture, one more at a time, and a line made of its parts.
+-- The texts of the picture: one more at a time, and the room that they take.
 -- Assumes nothing.
 use mathlib.Core.Path.{◌≡◌, refl}
-use mathlib.Core.Bool.{Bool}
-use mathlib.Core.List.{List, [], ◌∷◌}
-use Prim.Native.Nat.{ℕ, zero, suc, ◌+◌, ◌≤◌, ◌<◌}
+use mathlib.Core.Bool.{Bool, true, false, cond}
+use mathlib.Core.List.{List, [], ◌∷◌, ◌++◌}
+use Prim.Native.Nat.{ℕ, zero, suc, ◌+◌, ◌*◌, ◌≤◌, ◌<◌}
 use native.Mathlib.Omega.{arith}
+use native.Mathlib.Decide.{dec_lt}
 use native.Mathlib.Numerals.{add-one}
 use lib.Dec.{eqb}
-use lib.ListN.{length, get_or}
-use Rattle.record.specs.Text.{decimal, WroteAt}
-use Rattle.record.proofs.Placing.{placed_none, placed_on}
-use Rattle.picture.specs.Picture.{opening, closing, indent, line, state_text, states_text, step_text, steps_text, drawing}
+use lib.ListN.{length, get_or, length-append}
+use Rattle.gid.specs.Statuses.{status_open, status_unknown, status_live, status_dead}
+use Rattle.record.specs.Text.{decimal}
+use Rattle.record.proofs.Decimals.{five_digits}
+use Rattle.picture.specs.Picture.{indent, labelled, arrow, open_look, unknown_look, live_look, dead_look, double_end, single_end, bold_end, plain_end, line, node, state_text, states_text, step_text, steps_text}
 
 -- what stands in a list does not depend on what is read past its end
 pub read_same : (l : List ℕ) (i a b : ℕ) → i < length l → get_or l i a ≡ get_or l i b
@@ -18,38 +20,86 @@ read_same [] i a b h = absurd (omega arith)
 read_same (x ∷ l) zero a b h = refl
 read_same (x ∷ l) (suc i) a b h = read_same l i a b (omega arith)
 
--- nothing is drawn yet
-pub no_states : (f : ℕ → ℕ) (marked : ℕ → Bool) (at : ℕ) (d : List ℕ) → WroteAt at (states_text 0 f marked) d d at
-unfolding states_text
-no_states f marked at d = placed_none at d
-
-pub no_steps : (from to key successor : ℕ → ℕ) (at : ℕ) (d : List ℕ) → WroteAt at (steps_text 0 from to key successor) d d at
-unfolding steps_text
-no_steps from to key successor at d = placed_none at d
-
--- one state more
-pub states_on : (f : ℕ → ℕ) (marked : ℕ → Bool) (s : ℕ) {x : ℕ} {b : Bool} {at : ℕ} {d e g : List ℕ} {r k : ℕ} → x ≡ f s → b ≡ marked s → WroteAt at (states_text s f marked) d e r → WroteAt r (state_text x b s) e g k → k ≤ length d → WroteAt at (states_text (s + 1) f marked) d g k
-unfolding states_text
-states_on f marked s p q w v h = rw (add-one s) (placed_on w (rw (← p, ← q) v) h)
-
--- one step more
-pub steps_on : (from to key successor : ℕ → ℕ) (p : ℕ) {at : ℕ} {d e g : List ℕ} {r k : ℕ} → WroteAt at (steps_text p from to key successor) d e r → WroteAt r (step_text (from p) (to p) (key p) (eqb (successor (from p)) p)) e g k → k ≤ length d → WroteAt at (steps_text (p + 1) from to key successor) d g k
-unfolding steps_text
-steps_on from to key successor p w v h = rw (add-one p) (placed_on w v h)
-
--- a line of its five parts
-pub line_placed : (a : ℕ) (middle : List ℕ) (b : ℕ) (ending : List ℕ) {at : ℕ} {d e₁ e₂ e₃ e₄ e₅ : List ℕ} {r₁ r₂ r₃ r₄ r₅ : ℕ} → WroteAt at indent d e₁ r₁ → WroteAt r₁ (decimal a) e₁ e₂ r₂ → WroteAt r₂ middle e₂ e₃ r₃ → WroteAt r₃ (decimal b) e₃ e₄ r₄ → WroteAt r₄ ending e₄ e₅ r₅ → r₅ ≤ length d → WroteAt at (line a middle b ending) d e₅ r₅
+-- two numbers on a line
+pub line_length : (a : ℕ) (middle : List ℕ) (b : ℕ) (ending : List ℕ) → length (line a middle b ending) ≡ 2 + length (decimal a) + length middle + length (decimal b) + length ending
 unfolding line
-line_placed a middle b ending w₁ w₂ w₃ w₄ w₅ h =
-    let q₅ = w₅.after in
-    let q₄ = w₄.after in
-    let q₃ = w₃.after in
-    placed_on (placed_on (placed_on (placed_on w₁ w₂ (omega arith)) w₃ (omega arith)) w₄ (omega arith)) w₅ h
+line_length a middle b ending =
+    omega (arith, length-append indent (decimal a), length-append (indent ++ decimal a) middle, length-append (indent ++ decimal a ++ middle) (decimal b), length-append (indent ++ decimal a ++ middle ++ decimal b) ending)
 
--- the picture of its four parts
-pub drawn : (n m : ℕ) (f : ℕ → ℕ) (marked : ℕ → Bool) (from to key successor : ℕ → ℕ) {at : ℕ} {d e₁ e₂ e₃ e₄ : List ℕ} {r₁ r₂ r₃ r₄ : ℕ} → WroteAt at opening d e₁ r₁ → WroteAt r₁ (states_text n f marked) e₁ e₂ r₂ → WroteAt r₂ (steps_text m from to key successor) e₂ e₃ r₃ → WroteAt r₃ closing e₃ e₄ r₄ → r₄ ≤ length d → WroteAt at (drawing n m f marked from to key successor) d e₄ r₄
-unfolding drawing
-drawn n m f marked from to key successor w₁ w₂ w₃ w₄ h =
-    let q₄ = w₄.after in
-    let q₃ = w₃.after in
-    placed_on (placed_on (placed_on w₁ w₂ (omega arith)) w₃ (omega arith)) w₄ h
+line_room : (a : ℕ) (middle : List ℕ) (b : ℕ) (ending : List ℕ) → a < 100000 → b < 100000 → length (line a middle b ending) ≤ length middle + length ending + 12
+line_room a middle b ending p q = omega (arith, line_length a middle b ending, five_digits a p, five_digits b q)
+
+-- a state's line
+pub node_length : (s : ℕ) (look : List ℕ) (terminal : Bool) → length (node s look terminal) ≡ length (line s labelled s look) + length (cond terminal double_end single_end)
+node_length s look terminal = length-append (line s labelled s look) (cond terminal double_end single_end)
+
+end_room : (b : Bool) → length (cond b double_end single_end) ≤ 18
+end_room true = omega arith
+end_room false = omega arith
+
+node_room : (s : ℕ) (look : List ℕ) (terminal : Bool) → s < 100000 → length (node s look terminal) ≤ length look + 39
+node_room s look terminal h = omega (arith, node_length s look terminal, line_room s labelled s look h h, end_room terminal)
+
+state_room : (k : ℕ) (terminal : Bool) (s : ℕ) → s < 100000 → length (state_text k terminal s) ≤ 69
+state_room k terminal s h = by (eqb k status_open) (eqb k status_unknown) (eqb k status_live) (eqb k status_dead)
+  where
+    by : (o u l d : Bool) → length (cond o (node s open_look terminal) (cond u (node s unknown_look terminal) (cond l (node s live_look terminal) (cond d (node s dead_look terminal) [])))) ≤ 69
+    by true u l d = omega (arith, node_room s open_look terminal h)
+    by false true l d = omega (arith, node_room s unknown_look terminal h)
+    by false false true d = omega (arith, node_room s live_look terminal h)
+    by false false false true = omega (arith, node_room s dead_look terminal h)
+    by false false false false = omega arith
+
+-- the lines of one state more
+module _ (f : ℕ → ℕ) (marked : ℕ → Bool) where
+  pub states_next : (s : ℕ) → states_text (s + 1) f marked ≡ states_text s f marked ++ state_text (f s) (marked s) s
+  unfolding states_text
+  states_next s = rw (add-one s) refl
+
+  pub states_fit : (n s : ℕ) → s < n → length (states_text s f marked) + length (state_text (f s) (marked s) s) ≤ length (states_text n f marked)
+  unfolding states_text
+  states_fit zero s h = absurd (omega arith)
+  states_fit (suc n) s h = by (dec_lt s n) (states_fit n s) (length-append (states_text n f marked) (state_text (f n) (marked n) n))
+    where
+      by : Dec (s < n) → (s < n → length (states_text s f marked) + length (state_text (f s) (marked s) s) ≤ length (states_text n f marked)) → length (states_text n f marked ++ state_text (f n) (marked n) n) ≡ length (states_text n f marked) + length (state_text (f n) (marked n) n) → length (states_text s f marked) + length (state_text (f s) (marked s) s) ≤ length (states_text n f marked ++ state_text (f n) (marked n) n)
+      by (yes k) before e = omega (arith, before k)
+      by (no k) before e = let z : s ≡ n = omega arith in rw z (omega arith)
+
+  pub states_room : (n : ℕ) → n ≤ 100000 → length (states_text n f marked) ≤ 69 * n
+  unfolding states_text
+  states_room zero h = omega arith
+  states_room (suc n) h = omega (arith, states_room n (omega arith), state_room (f n) (marked n) n (omega arith), length-append (states_text n f marked) (state_text (f n) (marked n) n))
+
+-- a step's line
+pub step_length : (from to key : ℕ) (bold : Bool) → length (step_text from to key bold) ≡ length (line from arrow to labelled) + length (decimal key) + length (cond bold bold_end plain_end)
+step_length from to key bold = omega (arith, length-append (line from arrow to labelled) (decimal key), length-append (line from arrow to labelled ++ decimal key) (cond bold bold_end plain_end))
+
+style_room : (b : Bool) → length (cond b bold_end plain_end) ≤ 16
+style_room true = omega arith
+style_room false = omega arith
+
+step_room : (from to key : ℕ) (bold : Bool) → from < 100000 → to < 100000 → key < 100000 → length (step_text from to key bold) ≤ 46
+step_room from to key bold p q k = omega (arith, step_length from to key bold, line_room from arrow to labelled p q, five_digits key k, style_room bold)
+
+-- the lines of one step more
+module _ (from to key successor : ℕ → ℕ) where
+  abbrev step : ℕ → List ℕ
+  step p = step_text (from p) (to p) (key p) (eqb (successor (from p)) p)
+
+  pub steps_next : (p : ℕ) → steps_text (p + 1) from to key successor ≡ steps_text p from to key successor ++ step p
+  unfolding steps_text
+  steps_next p = rw (add-one p) refl
+
+  pub steps_fit : (m p : ℕ) → p < m → length (steps_text p from to key successor) + length (step p) ≤ length (steps_text m from to key successor)
+  unfolding steps_text
+  steps_fit zero p h = absurd (omega arith)
+  steps_fit (suc m) p h = by (dec_lt p m) (steps_fit m p) (length-append (steps_text m from to key successor) (step m))
+    where
+      by : Dec (p < m) → (p < m → length (steps_text p from to key successor) + length (step p) ≤ length (steps_text m from to key successor)) → length (steps_text m from to key successor ++ step m) ≡ length (steps_text m from to key successor) + length (step m) → length (steps_text p from to key successor) + length (step p) ≤ length (steps_text m from to key successor ++ step m)
+      by (yes k) before e = omega (arith, before k)
+      by (no k) before e = let z : p ≡ m = omega arith in rw z (omega arith)
+
+  pub steps_room : ((p : ℕ) → from p < 100000) → ((p : ℕ) → to p < 100000) → ((p : ℕ) → key p < 100000) → (m : ℕ) → length (steps_text m from to key successor) ≤ 46 * m
+  unfolding steps_text
+  steps_room a b c zero = omega arith
+  steps_room a b c (suc m) = omega (arith, steps_room a b c m, step_room (from m) (to m) (key m) (eqb (successor (from m)) m) (a m) (b m) (c m), length-append (steps_text m from to key successor) (step m))

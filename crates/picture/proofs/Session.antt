@@ -49,7 +49,7 @@ low_limit [] = omega arith
 low_limit (a ∷ l) = omega (arith, same_limit a record_graph)
 
 -- What is drawn from tables that stand for some lines.
-shown : (d : Drawer) {t : Tables} {output output' : List ℕ} (l : List Item) → Standing (start_of record_graph l) (after_items (start_of record_graph l) [] l) d.reader.engine.graph t → WroteAt 0 (picture_by d.reader t.status t.marks t.from t.to t.key t.successor) output output' d.end → (input : List ℕ) → items input ≡ l → Shows (record_start record_limit input).n (history_of record_limit input) (take d.end output')
+shown : (d : Drawer) {t : Tables} {output output' : List ℕ} (l : List Item) → Standing (start_of record_graph l) (after_items (start_of record_graph l) [] l) d.reader.engine.graph t → WroteAt 0 (picture_by d.reader t) output output' d.end → (input : List ℕ) → items input ≡ l → Shows (record_start record_limit input).n (history_of record_limit input) (take d.end output')
 shown d l s w input e = rw (e, placed_take w (omega arith)) (picture_says (few_states record_limit l (subst Headed e (items_headed input))) (low_limit l) s)
 
 -- The piece that was asked for has been read.

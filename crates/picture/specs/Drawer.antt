@@ -32,18 +32,8 @@ abbrev pub drawn_states : ℕ → ℕ
 drawn_states n = cond (ltb max_states n) max_states n
 
 -- The picture of a reader's tables.
-abbrev pub picture_by : Reader → (status marks from to key successor : List ℕ) → List ℕ
-picture_by r status marks from to key successor = picture (drawn_states r.engine.graph.n) (drawn_steps r.engine.graph.steps (length from) (length to) (length key)) status marks from to key successor
-
--- The picture has been written: that is all.
-pub data PutsPicture (r : Reader) (status marks from to key successor output : List ℕ) (d : Drawer) (output' : List ℕ) : Type 0 where
-  closes : {end : ℕ} → d ≡ record { reader = r; end = end; task = End } → WroteAt 0 (picture_by r status marks from to key successor) output output' end → end ≤ length output → PutsPicture r status marks from to key successor output d output'
-
--- What is to be done after a piece of `given` bytes.
-pub data AfterPiece (r : Reader) (given : ℕ) (status marks from to key successor output : List ℕ) (d : Drawer) (output' : List ℕ) : Type 0 where
-  continues : 0 < given → r.splitter.stopped ≡ false → d ≡ record { reader = r; end = 0; task = Read } → output' ≡ output → AfterPiece r given status marks from to key successor output d output'
-  stops : 0 < given → r.splitter.stopped ≡ true → PutsPicture r status marks from to key successor output d output' → AfterPiece r given status marks from to key successor output d output'
-  ends : given ≡ 0 → PutsPicture r status marks from to key successor output d output' → AfterPiece r given status marks from to key successor output d output'
+abbrev pub picture_by : Reader → Tables → List ℕ
+picture_by r t = picture (drawn_states r.engine.graph.n) (drawn_steps r.engine.graph.steps (length t.from) (length t.to) (length t.key)) t.status t.marks t.from t.to t.key t.successor
 
 -- A call: the output is too short; or the lines of the piece are read; and where reading has stopped, or the input has ended, the picture of the tables is written.
 pub data Draws (d : Drawer) (piece output : List ℕ) (t : Tables) (d' : Drawer) (output' : List ℕ) (t' : Tables) : Type 0 where
@@ -53,7 +43,7 @@ pub data Draws (d : Drawer) (piece output : List ℕ) (t : Tables) (d' : Drawer)
       d'.task ≡ Read → d'.end ≡ 0 → output' ≡ output → Draws d piece output t d' output' t'
   stopped :
       {left : List ℕ} → Follows d.reader.splitter piece d.reader.engine.graph t d'.reader.splitter left d'.reader.engine.graph t' → d'.reader.splitter.stopped ≡ true →
-      d'.task ≡ End → WroteAt 0 (picture_by d'.reader t'.status t'.marks t'.from t'.to t'.key t'.successor) output output' d'.end → d'.end ≤ length output → Draws d piece output t d' output' t'
+      d'.task ≡ End → WroteAt 0 (picture_by d'.reader t') output output' d'.end → d'.end ≤ length output → Draws d piece output t d' output' t'
   ended :
       {newline left : List ℕ} → piece ≡ [] → newline ≡ last_newlines d.reader.splitter → Follows d.reader.splitter newline d.reader.engine.graph t d'.reader.splitter left d'.reader.engine.graph t' → left ≡ [] →
-      d'.task ≡ End → WroteAt 0 (picture_by d'.reader t'.status t'.marks t'.from t'.to t'.key t'.successor) output output' d'.end → d'.end ≤ length output → Draws d piece output t d' output' t'
+      d'.task ≡ End → WroteAt 0 (picture_by d'.reader t') output output' d'.end → d'.end ≤ length output → Draws d piece output t d' output' t'

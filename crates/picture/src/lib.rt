@@ -4,5 +4,5 @@
 mod drawer;
 mod text;
 
-pub use drawer::{Drawer, begin, draw};
+pub use drawer::Drawer;
 pub use text::PICTURE_ROOM;

@@ -1,16 +1,17 @@
 -- The status of a state after a record. Document 01, "The record": "it hands over a record's bytes and a state number, and gets a status." Document 02, #107.
 -- Assumes nothing.
-use Rattle.std.specs.Prelude.{◌≡◌, cond, List, [], ℕ, ◌+◌, ◌≤◌, leb}
+use Rattle.std.specs.Prelude.{◌≡◌, cond, List, [], ℕ, ◌+◌, leb, Result, Ok, Err, None, Some}
 use Rattle.std.proofs.Math.Option.{Option, some, none}
 use Rattle.gid.specs.Histories.{History}
 use Rattle.gid.specs.Statuses.{status}
 use Rattle.tables.specs.Tables.{Tables}
 use Rattle.tables.specs.Keeping.{KeptTables}
+use Rattle.tables.specs.declared.refusal.Refusal.{Refusal as RefusedBy}
+use Rattle.tables.specs.Numbers.{number_of}
 use Rattle.record.specs.declared.splitter.Item.{Item}
 use Rattle.record.specs.declared.splitter.Item.TheVariants.{Nothing, Update, Malformed, BadNames, TooMany, States, BadCount}
 use Rattle.record.specs.Items.{items, count_in}
-use Rattle.reader.specs.declared.driver.LineAnswer.{LineAnswer}
-use Rattle.reader.specs.declared.driver.LineAnswer.TheVariants.{Nothing as NoLine, Accepted, Refused}
+use Rattle.reader.specs.Turning.{Answered}
 use Rattle.reader.specs.Opening.{reader_states, open_refusal, freshened}
 use Rattle.reader.specs.Replaying.{record_start, history_of, after_items, Refusal, first_refusal, up_to_refusal}
 use Rattle.reader.specs.Reading.{record_limit, graph_of}
@@ -24,6 +25,21 @@ or_number (some k) r = 16 + k
 abbrev pub or_line : Option Refusal → ℕ → ℕ
 or_line none r = r
 or_line (some x) r = 16 + x.number
+
+-- The same of an answer as a Result,
+abbrev pub status_code : Result ℕ RefusedBy → ℕ
+status_code (Ok b) = b
+status_code (Err r) = 16 + number_of r
+
+-- of one that gives this where it is not refused,
+abbrev pub given : {A B : Type 0} → Result A RefusedBy → B → Result B RefusedBy
+given (Ok a) b = Ok b
+given (Err r) b = Err r
+
+-- and the number of a refusal, if there is one.
+abbrev pub passes : {A : Type 0} → Result A RefusedBy → Option ℕ
+passes (Ok a) = none
+passes (Err r) = some (number_of r)
 
 -- "if several lines are refused, the first of them decides"; where none is, the status of the state s after all lines.
 abbrev pub answer_after : List ℕ → ℕ → ℕ
@@ -63,13 +79,11 @@ pub record StatusAfter (bytes : List ℕ) (s : ℕ) (t t' : Tables) (r : ℕ) : 
   pub kept : KeptTables reader_states reader_states record_limit t t'
 
 -- The answer by what came of a line.
-abbrev pub refused_or : LineAnswer → ℕ → ℕ
-refused_or NoLine b = b
-refused_or (Accepted line k) b = b
-refused_or (Refused line k) b = 16 + k
+abbrev pub refused_or : Answered → ℕ → ℕ
+refused_or None b = b
+refused_or (Some a) b = status_code (given a.outcome b)
 
--- Its number is at most 17.
-abbrev pub Few : LineAnswer → Type 0
-Few NoLine = Unit {0}
-Few (Accepted line k) = Unit {0}
-Few (Refused line k) = k ≤ 17
+-- The same as a Result: whether no line was refused.
+abbrev pub accepted : Answered → Result (Unit {0}) RefusedBy
+accepted None = Ok tt
+accepted (Some a) = given a.outcome tt

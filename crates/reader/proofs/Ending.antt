@@ -14,10 +14,9 @@ use Rattle.record.specs.declared.splitter.Item.TheVariants.{States}
 use Rattle.record.specs.declared.splitter.Splitter.{Splitter}
 use Rattle.record.specs.Splitting.{last_newlines, tells}
 use Rattle.record.proofs.Splitting.{last_short, last_part, Mild, silent, counts, first_mild}
-use Rattle.reader.specs.declared.driver.LineAnswer.{LineAnswer}
-use Rattle.reader.specs.declared.driver.LineAnswer.TheVariants.{Nothing}
+use Rattle.std.specs.Prelude.{None}
 use Rattle.reader.specs.declared.driver.Until.{Until}
-use Rattle.reader.specs.Turning.{Came, sent, nothing, malformed, bad_names, too_many, states, bad_count}
+use Rattle.reader.specs.Turning.{Answered, Came, sent, nothing, malformed, bad_names, too_many, states, bad_count}
 use Rattle.reader.specs.Advancing.{Passed, items_of, Applies, none as no_line, next, waited, Stops, found, ended, Follows, Advances}
 use Rattle.reader.proofs.Following.{never}
 
@@ -34,7 +33,7 @@ last_split s (x ∷ []) (y ∷ z ∷ left) e = absurd (omega (arith, last_short 
 last_split s (x ∷ w ∷ read) (y ∷ left) e = absurd (omega (arith, last_short s, ap length e, length-append read (y ∷ left)))
 
 -- What comes of a count is no answer.
-pub count_answer : {a : Item} {c : ℕ} {g g' : Graph} {t t' : Tables} {o : LineAnswer} → Came a g t g' t' o → a ≡ States c → o ≡ Nothing
+pub count_answer : {a : Item} {c : ℕ} {g g' : Graph} {t t' : Tables} {o : Answered} → Came a g t g' t' o → a ≡ States c → o ≡ None
 count_answer nothing e = refl
 count_answer (sent p q w) e = absurd (let z : ◌≡◌ {A = ℕ} 0 1 = cc in omega arith)
 count_answer malformed e = absurd (let z : ◌≡◌ {A = ℕ} 0 1 = cc in omega arith)
@@ -46,7 +45,7 @@ count_answer bad_count e = absurd (let z : ◌≡◌ {A = ℕ} 0 1 = cc in omega
 -- Lines that were passed and tell a count at most have no answer.
 abbrev pub Silent : List Passed → Type 0
 Silent [] = Unit {0}
-Silent (p ∷ l) = (p.answer ≡ Nothing) × Silent l
+Silent (p ∷ l) = (p.answer ≡ None) × Silent l
 
 pub mild_silent : {m : List Item} {g g' : Graph} {t t' : Tables} {l : List Passed} → Mild m → m ≡ items_of l → Applies g t l g' t' → Silent l
 mild_silent silent e no_line = tt
@@ -55,7 +54,7 @@ mild_silent (counts k) e no_line = tt
 mild_silent (counts k) e (next c no_line) = (count_answer {c = k} c (let z = e in cc), tt)
 mild_silent (counts k) e (next c (next d a)) = absurd (let z = ap length e in omega arith)
 
-silent_last : (before : List Passed) (p : Passed) → Silent (before ++ (p ∷ [])) → p.answer ≡ Nothing
+silent_last : (before : List Passed) (p : Passed) → Silent (before ++ (p ∷ [])) → p.answer ≡ None
 silent_last [] p q = q.0
 silent_last (b ∷ before) p q = silent_last before p q.1
 
@@ -73,7 +72,7 @@ first_silent {s} {left = left} n f = by (last_split s f.read left (sym n ∙ f.s
     by (inr (inr (e, two))) = inr (inr (mild_silent (first_mild s two) (ap (tells s) (sym e) ∙ f.told) f.applied))
 
 -- So a reader that waits for a line reads them all.
-pub last_all : {until : Until} {s s' : Splitter} {newlines left : List ℕ} {g g' : Graph} {t t' : Tables} {o : LineAnswer} → newlines ≡ last_newlines s → Advances until s newlines g t s' left g' t' o → left ≡ []
+pub last_all : {until : Until} {s s' : Splitter} {newlines left : List ℕ} {g g' : Graph} {t t' : Tables} {o : Answered} → newlines ≡ last_newlines s → Advances until s newlines g t s' left g' t' o → left ≡ []
 unfolding tells
 last_all {until} {s} {left = left} {o = o} n a = at a.stops
   where

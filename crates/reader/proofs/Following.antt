@@ -1,6 +1,6 @@
 -- The laws of the fold over a record's lines: no line, one line more, and lines behind lines; what it keeps, and where it stands.
 -- Assumes nothing.
-use mathlib.Core.Path.{◌≡◌, refl, sym, ◌∙◌, ap, subst}
+use mathlib.Core.Path.{◌≡◌, refl, sym, ◌∙◌, ap}
 use mathlib.Core.Bool.{true, false, false≢true}
 use mathlib.Core.List.{List, [], ◌∷◌, ◌++◌, append_assoc, append-nil}
 use mathlib.Core.Option.{Option, some, none}
@@ -16,8 +16,8 @@ use Rattle.tables.specs.Keeping.{KeptTables}
 use Rattle.tables.specs.Refused.{refusal_on}
 use Rattle.tables.proofs.Keeping.{tables_same, tables_then, tables_wider}
 use Rattle.tables.proofs.Refusing.{accepted_passes}
-use Rattle.engine.specs.declared.Answer.{Answer}
-use Rattle.engine.specs.declared.Answer.TheVariants.{Accepted as Yes, Refused as No}
+use Rattle.std.specs.Prelude.{None, Ok as Yes, Err as No}
+use Rattle.engine.specs.Answers.{Answer}
 use Rattle.engine.specs.Promise.{Promise}
 use Rattle.engine.proofs.Running.{was_accepted}
 use Rattle.engine.proofs.Promising.{room_of}
@@ -29,39 +29,14 @@ use Rattle.record.specs.Items.{item_line, max_lines}
 use Rattle.record.specs.Splitting.{after_part, told, tells, run, after_bytes}
 use Rattle.record.proofs.Splitting.{bytes_then, tells_then, run_tells, parted, part_line}
 use Rattle.record.proofs.Heading.{NoCount, NoCounts, Headed}
-use Rattle.reader.specs.declared.driver.LineAnswer.{LineAnswer}
-use Rattle.reader.specs.declared.driver.LineAnswer.TheVariants.{Nothing}
 use Rattle.reader.specs.declared.driver.Until.{Until}
 use Rattle.reader.specs.declared.driver.Until.TheVariants.{News, Refusal, End}
-use Rattle.reader.specs.Turning.{item_answer, line_answer, Came, sent, nothing, malformed, bad_names, too_many, states, bad_count}
+use Rattle.reader.specs.Turning.{Answered, line_answer, Came, sent, nothing, malformed, bad_names, too_many, states, bad_count}
 use Rattle.reader.specs.Replaying.{with_count, start_of, after_item, after_items}
 use Rattle.reader.specs.Opening.{reader_states}
 use Rattle.reader.specs.Standing.{Standing}
 use Rattle.reader.specs.Advancing.{Passed, items_of, Applies, none as no_line, next, waited, Quiet, found, ended, Bounded, Follows, Advances}
-use Rattle.reader.proofs.Lines.{answer_told, line_right, head_right}
-
--- What comes of a line that is no update.
-pub came_other : (a : Item) {g : Graph} {t : Tables} → ((n : Numbered) → a ≡ Sent n → ⊥) → Came a g t (with_count a g) t (item_answer a)
-came_other NoLine e = nothing
-came_other (Sent n) e = absurd (e n refl)
-came_other (Malformed n) e = malformed
-came_other (BadNames n) e = bad_names
-came_other TooMany e = too_many
-came_other (States c) e = states
-came_other BadCount e = bad_count
-
--- A line that is no count leaves the state value.
-pub uncounted : (a : Item) (g : Graph) → ((c : ℕ) → a ≡ States c → ⊥) → g ≡ with_count a g
-uncounted NoLine g e = refl
-uncounted (Sent n) g e = refl
-uncounted (Malformed n) g e = refl
-uncounted (BadNames n) g e = refl
-uncounted TooMany g e = refl
-uncounted (States c) g e = absurd (e c refl)
-uncounted BadCount g e = refl
-
-pub came_as : {a b : Item} {g : Graph} {t : Tables} {g' : Graph} {t' : Tables} {o : LineAnswer} → a ≡ b → Came a g t g' t' o → Came b g t g' t' o
-came_as {g = g} {t = t} {g' = g'} {t' = t'} {o = o} e c = subst (λ (x : Item). Came x g t g' t' o) e c
+use Rattle.reader.proofs.Lines.{line_right, head_right}
 
 -- What a call keeps: every table past the entries of the first m states, and the step limit.
 pub record SameSize (m : ℕ) (g : Graph) (t : Tables) (g' : Graph) (t' : Tables) : Type 0 where
@@ -85,7 +60,7 @@ same_promise m {g} {x} {t} {g'} {a} {t'} h p = by (refusal_on g t x) refl
         (record { kept = tables_wider (h r.states) w.kept; limit = ap (λ (h : Graph). h.limit) w.graph }, ap (λ (h : Graph). h.n) w.graph)
     by (some k) e = let w = p.refuses k e in rw (w.1, w.2) (same_none m g t, refl)
 
-pub came_same : (m : ℕ) {a : Item} {g : Graph} {t : Tables} {g' : Graph} {t' : Tables} {o : LineAnswer} → (g.n ≤ max_states → g.n ≤ m) → Came a g t g' t' o → SameSize m g t g' t'
+pub came_same : (m : ℕ) {a : Item} {g : Graph} {t : Tables} {g' : Graph} {t' : Tables} {o : Answered} → (g.n ≤ max_states → g.n ≤ m) → Came a g t g' t' o → SameSize m g t g' t'
 came_same m {g = g} {t = t} h nothing = same_none m g t
 came_same m h (sent p e w) = (same_promise m h p).0
 came_same m {g = g} {t = t} h malformed = same_none m g t
@@ -99,7 +74,7 @@ applies_same {g} {t = t} no_line = same_none reader_states g t
 applies_same (next c a) = same_then (came_same reader_states (λ h. h) c) (applies_same a)
 
 -- Lines that are no counts leave the number of states, and touch no entry past them.
-came_states : {a : Item} {g : Graph} {t : Tables} {g' : Graph} {t' : Tables} {o : LineAnswer} → NoCount a → Came a g t g' t' o → g'.n ≡ g.n
+came_states : {a : Item} {g : Graph} {t : Tables} {g' : Graph} {t' : Tables} {o : Answered} → NoCount a → Came a g t g' t' o → g'.n ≡ g.n
 came_states n nothing = refl
 came_states {g = g} n (sent p e w) = (same_promise g.n (λ h. omega arith) p).1
 came_states n malformed = refl
@@ -113,7 +88,7 @@ applies_within m {g} {t = t} n h no_line = same_none m g t
 applies_within m n h (next c a) = same_then (came_same m (λ z. h) c) (applies_within m n.1 (omega (arith, came_states n.0 c)) a)
 
 -- From the start of a record: the entries past its n are as they were.
-head_within : {a : Item} {g : Graph} {t : Tables} {g' : Graph} {t' : Tables} {o : LineAnswer} → Came a g t g' t' o → SameSize (with_count a g).n g t g' t' × (g'.n ≡ (with_count a g).n)
+head_within : {a : Item} {g : Graph} {t : Tables} {g' : Graph} {t' : Tables} {o : Answered} → Came a g t g' t' o → SameSize (with_count a g).n g t g' t' × (g'.n ≡ (with_count a g).n)
 head_within {g = g} {t = t} nothing = (same_none g.n g t, refl)
 head_within {g = g} (sent p e w) = same_promise g.n (λ h. omega arith) p
 head_within {g = g} {t = t} malformed = (same_none g.n g t, refl)
@@ -148,7 +123,7 @@ begins_stands w h s no_line = s
 begins_stands w h s (next c a) = applies_stands h.1 (head_right w s h.0 c).1 a
 
 -- What a turn passes: the line that has ended, if one has.
-abbrev one : Item → LineAnswer → Tables → List Passed
+abbrev one : Item → Answered → Tables → List Passed
 one NoLine o t = []
 one (Sent r) o t = record { item = Sent r; answer = o; after = t } ∷ []
 one (Malformed n) o t = record { item = Malformed n; answer = o; after = t } ∷ []
@@ -157,7 +132,7 @@ one TooMany o t = record { item = TooMany; answer = o; after = t } ∷ []
 one (States c) o t = record { item = States c; answer = o; after = t } ∷ []
 one BadCount o t = record { item = BadCount; answer = o; after = t } ∷ []
 
-one_told : (a : Item) (o : LineAnswer) (t : Tables) → items_of (one a o t) ≡ told a
+one_told : (a : Item) (o : Answered) (t : Tables) → items_of (one a o t) ≡ told a
 one_told NoLine o t = refl
 one_told (Sent r) o t = refl
 one_told (Malformed n) o t = refl
@@ -166,7 +141,7 @@ one_told TooMany o t = refl
 one_told (States c) o t = refl
 one_told BadCount o t = refl
 
-one_applies : {a : Item} {g : Graph} {t : Tables} {g' : Graph} {t' : Tables} {o : LineAnswer} → Came a g t g' t' o → Applies g t (one a o t') g' t'
+one_applies : {a : Item} {g : Graph} {t : Tables} {g' : Graph} {t' : Tables} {o : Answered} → Came a g t g' t' o → Applies g t (one a o t') g' t'
 one_applies nothing = no_line
 one_applies (sent p e w) = next (sent p e w) no_line
 one_applies malformed = next malformed no_line
@@ -179,7 +154,7 @@ quiet_then : (until : Until) (l m : List Passed) → Quiet until l → Quiet unt
 quiet_then until [] m a b = b
 quiet_then until (p ∷ l) m a b = (a.0, quiet_then until l m a.1 b)
 
-one_quiet : (until : Until) (a : Item) (o : LineAnswer) (t : Tables) → waited until o ≡ false → Quiet until (one a o t)
+one_quiet : (until : Until) (a : Item) (o : Answered) (t : Tables) → waited until o ≡ false → Quiet until (one a o t)
 one_quiet until NoLine o t e = tt
 one_quiet until (Sent r) o t e = (e, tt)
 one_quiet until (Malformed n) o t e = (e, tt)
@@ -188,13 +163,13 @@ one_quiet until TooMany o t e = (e, tt)
 one_quiet until (States c) o t e = (e, tt)
 one_quiet until BadCount o t e = (e, tt)
 
-pub never : (u : Until) → waited u Nothing ≡ false
+pub never : (u : Until) → waited u None ≡ false
 never News = refl
 never Refusal = refl
 never End = refl
 
 -- a line that is waited for has ended
-one_found : (until : Until) {a : Item} {g : Graph} {t : Tables} {g' : Graph} {t' : Tables} {o : LineAnswer} → Came a g t g' t' o → waited until o ≡ true → (p : Passed) × (one a o t' ≡ p ∷ []) × (o ≡ p.answer)
+one_found : (until : Until) {a : Item} {g : Graph} {t : Tables} {g' : Graph} {t' : Tables} {o : Answered} → Came a g t g' t' o → waited until o ≡ true → (p : Passed) × (one a o t' ≡ p ∷ []) × (o ≡ p.answer)
 one_found until nothing e = absurd (false≢true (sym (never until) ∙ e))
 one_found until (sent p q w) e = (_, refl, refl)
 one_found until malformed e = (_, refl, refl)
@@ -204,11 +179,11 @@ one_found until states e = absurd (false≢true (sym (never until) ∙ e))
 one_found until bad_count e = (_, refl, refl)
 
 -- a line that is an update
-pub came_sent : {r : Numbered} {g g' : Graph} {t t' : Tables} {a : Answer} {o : LineAnswer} → Promise g r.update t g' a t' → o ≡ line_answer r.line a → Came (Sent r) g t g' t' o
-came_sent {r} {t' = t'} {a = a} p e = sent p e (rw e (answer_told r.line a t'.news))
+pub came_sent : {r : Numbered} {g g' : Graph} {t t' : Tables} {a : Answer} {o : Answered} → Promise g r.update t g' a t' → o ≡ line_answer r.line a → Came (Sent r) g t g' t' o
+came_sent p e = sent p e (rw e)
 
 -- what came of a line is bounded
-came_bounded : {a : Item} {g : Graph} {t : Tables} {g' : Graph} {t' : Tables} {o : LineAnswer} → Came a g t g' t' o → item_line a ≤ max_lines + 1 → Bounded o t'.news
+came_bounded : {a : Item} {g : Graph} {t : Tables} {g' : Graph} {t' : Tables} {o : Answered} → Came a g t g' t' o → item_line a ≤ max_lines + 1 → Bounded o t'.news
 came_bounded nothing h = tt
 came_bounded {g = g} {t = t} {g' = g'} {t' = t'} (sent {r = r} {a = a} p e w) h = rw e (by a p)
   where
@@ -263,7 +238,7 @@ module _ {s s' : Splitter} {bytes bytes' : List ℕ} {g g' : Graph} {t t' : Tabl
   follows_all e = sym (f.split ∙ ap (λ (x : List ℕ). f.read ++ x) e ∙ append-nil f.read)
 
 -- A turn, by what it answers.
-abbrev turned : (s : Splitter) (l : List ℕ) (i : ℕ) {g g' : Graph} {t t' : Tables} {o : LineAnswer} → Came (after_part s l i).item g t g' t' o → Follows s (drop i l) g t (after_part s l i).splitter (drop (after_part s l i).next l) g' t'
+abbrev turned : (s : Splitter) (l : List ℕ) (i : ℕ) {g g' : Graph} {t t' : Tables} {o : Answered} → Came (after_part s l i).item g t g' t' o → Follows s (drop i l) g t (after_part s l i).splitter (drop (after_part s l i).next l) g' t'
 turned s l i {t' = t'} {o = o} c =
     let p = parted s l i in
     record {
@@ -276,7 +251,7 @@ turned s l i {t' = t'} {o = o} c =
       kept = (came_same reader_states (λ h. h) c).kept;
     }
 
-module _ (until : Until) {s s₁ s₂ : Splitter} {bytes : List ℕ} {g g₁ g₂ : Graph} {t t₁ t₂ : Tables} (l : List ℕ) (i j : ℕ) {o : LineAnswer} (f : Follows s bytes g t s₁ (drop i l) g₁ t₁) (quiet : Quiet until f.passed) (n : j ≡ (after_part s₁ l i).next) (m : s₂ ≡ (after_part s₁ l i).splitter) (c : Came (after_part s₁ l i).item g₁ t₁ g₂ t₂ o) where
+module _ (until : Until) {s s₁ s₂ : Splitter} {bytes : List ℕ} {g g₁ g₂ : Graph} {t t₁ t₂ : Tables} (l : List ℕ) (i j : ℕ) {o : Answered} (f : Follows s bytes g t s₁ (drop i l) g₁ t₁) (quiet : Quiet until f.passed) (n : j ≡ (after_part s₁ l i).next) (m : s₂ ≡ (after_part s₁ l i).splitter) (c : Came (after_part s₁ l i).item g₁ t₁ g₂ t₂ o) where
   -- one line more that is not waited for
   pub follows_line : waited until o ≡ false → (k : Follows s bytes g t s₂ (drop j l) g₂ t₂) × Quiet until k.passed
   follows_line e =
@@ -294,5 +269,5 @@ module _ (until : Until) {s s₁ s₂ : Splitter} {bytes : List ℕ} {g g₁ g�
       })
 
 -- no byte is left
-pub advances_ended : (until : Until) {s s' : Splitter} {bytes bytes' : List ℕ} {g g' : Graph} {t t' : Tables} (f : Follows s bytes g t s' bytes' g' t') → Quiet until f.passed → (bytes ≡ [] → f.passed ≡ []) → bytes' ≡ [] → Advances until s bytes g t s' bytes' g' t' Nothing
+pub advances_ended : (until : Until) {s s' : Splitter} {bytes bytes' : List ℕ} {g g' : Graph} {t t' : Tables} (f : Follows s bytes g t s' bytes' g' t') → Quiet until f.passed → (bytes ≡ [] → f.passed ≡ []) → bytes' ≡ [] → Advances until s bytes g t s' bytes' g' t' None
 advances_ended until f quiet idle e = record { follows = f; stops = ended quiet e refl; idle = idle; bounded = tt }

@@ -6,5 +6,4 @@ pub mod Going
 pub mod Whole
 pub mod Parts
 pub mod Ending
-pub mod Pieces
 pub mod Refusing

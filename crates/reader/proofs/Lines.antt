@@ -16,24 +16,24 @@ use Rattle.gid.specs.Refusals.{max_states, refusal}
 use Rattle.gid.specs.Outcomes.{Outcome, by_number, given_after, outcome, after}
 use Rattle.tables.specs.declared.Graph.{Graph}
 use Rattle.tables.specs.declared.lengths.Lengths.{Lengths}
+use Rattle.tables.specs.declared.refusal.Refusal.{Refusal}
 use Rattle.tables.specs.Tables.{Tables, lengths, enough, needs}
 use Rattle.tables.specs.Fitting.{Consistent}
 use Rattle.tables.proofs.Keeping.{lengths_kept}
 use Rattle.tables.proofs.Sizes.{fewer_enough}
-use Rattle.engine.specs.declared.Answer.{Answer}
-use Rattle.engine.specs.declared.Answer.TheVariants.{Accepted as Yes, Refused as No}
-use Rattle.engine.specs.Answers.{answer_outcome}
+use Rattle.std.specs.Prelude.{Ok as Yes, Err as No}
+use Rattle.tables.specs.Numbers.{number_of}
+use Rattle.engine.specs.Answers.{Answer, answer_outcome}
 use Rattle.engine.specs.Promise.{Promise}
 use Rattle.engine.specs.Runs.{Run, begun, accepted as goes_on, refused as passes}
 use Rattle.engine.proofs.Running.{unchecked, Sound, sound}
 use Rattle.engine.proofs.Replay.{replay}
 use Rattle.record.specs.declared.splitter.Item.{Item}
 use Rattle.record.specs.declared.splitter.Item.TheVariants.{Nothing as NoLine, Update as Sent, Malformed, BadNames, TooMany, States, BadCount}
-use Rattle.record.specs.Items.{item_line}
+use Rattle.record.specs.Items.{item_number, item_line}
 use Rattle.record.proofs.Heading.{NoCount, MayCount}
-use Rattle.reader.specs.declared.driver.LineAnswer.{LineAnswer}
 use Rattle.reader.specs.Opening.{reader_graph, open_refusal, freshened}
-use Rattle.reader.specs.Turning.{Told, line_outcome, line_answer, Came, sent, nothing, malformed, bad_names, too_many, states, bad_count}
+use Rattle.reader.specs.Turning.{Told, Answered, line_outcome, item_refusal, Came, sent, nothing, malformed, bad_names, too_many, states, bad_count}
 use Rattle.reader.specs.Replaying.{with_count, outcome_of, after_item, sends}
 use Rattle.reader.specs.Standing.{Standing}
 use Rattle.reader.specs.Reading.{graph_of}
@@ -66,9 +66,19 @@ line_told start h TooMany = some (record { line = item_line TooMany; outcome = o
 line_told start h (States c) = none
 line_told start h BadCount = some (record { line = item_line BadCount; outcome = outcome_of start h BadCount })
 
-pub answer_told : (line : ℕ) (a : Answer) (news : List ℕ) → line_outcome (line_answer line a) news ≡ some (record { line = line; outcome = answer_outcome a news })
-answer_told line (Yes k) news = refl
-answer_told line (No k) news = refl
+-- A line that is no update is refused by its number.
+abbrev refusal_number : Option Refusal → Option ℕ
+refusal_number none = none
+refusal_number (some r) = some (number_of r)
+
+pub item_refusal_number : (a : Item) → refusal_number (item_refusal a) ≡ item_number a
+item_refusal_number NoLine = refl
+item_refusal_number (Sent r) = refl
+item_refusal_number (Malformed n) = refl
+item_refusal_number (BadNames n) = refl
+item_refusal_number TooMany = refl
+item_refusal_number (States c) = refl
+item_refusal_number BadCount = refl
 
 module _ {start : Graph} {h : History} {g : Graph} {t : Tables} (s : Standing start h g t) where
   soundly : Sound g t h g t
@@ -93,7 +103,7 @@ module _ {start : Graph} {h : History} {g : Graph} {t : Tables} (s : Standing st
       (r.0, stands r.1)
 
   -- One line, which is no count: what comes of it is what the definitions say, and so are the tables after it.
-  pub line_right : {a : Item} {g' : Graph} {t' : Tables} {o : LineAnswer} → NoCount a → Came a g t g' t' o → (line_outcome o t'.news ≡ line_told start h a) × Standing start (after_item start h a) g' t'
+  pub line_right : {a : Item} {g' : Graph} {t' : Tables} {o : Answered} → NoCount a → Came a g t g' t' o → (line_outcome o t'.news ≡ line_told start h a) × Standing start (after_item start h a) g' t'
   line_right n nothing = (refl, s)
   line_right n (sent {r = r} p e q) =
       let w = updated r.update p in
@@ -116,7 +126,7 @@ module _ {start : Graph} {h : History} {g : Graph} {t : Tables} (s : Standing st
       by (some j) (No k) q e = passes r unchecked x k q
 
   -- A line goes on with a run by its update, accepted or refused, where it has one: the tables are those of a run over the lines' updates.
-  pub line_runs : {g₀ : Graph} {t₀ : Tables} {xs : List Update} {a : Item} {g' : Graph} {t' : Tables} {o : LineAnswer} → NoCount a → Run g₀ t₀ xs h g t → Came a g t g' t' o → Run g₀ t₀ (sends a ++ xs) (after_item start h a) g' t'
+  pub line_runs : {g₀ : Graph} {t₀ : Tables} {xs : List Update} {a : Item} {g' : Graph} {t' : Tables} {o : Answered} → NoCount a → Run g₀ t₀ xs h g t → Came a g t g' t' o → Run g₀ t₀ (sends a ++ xs) (after_item start h a) g' t'
   line_runs n r nothing = r
   line_runs n r (sent {r = l} {a = a} p e q) = runs l.update a r p
   line_runs n r malformed = r
@@ -168,7 +178,7 @@ counted_stands {start} {g} {t} c h s =
     }
 
 -- The first line of a record: a count gives n, and any other leaves it.
-pub head_right : {start g : Graph} {t : Tables} {a : Item} {g' : Graph} {t' : Tables} {o : LineAnswer} → max_states ≤ start.n → Standing start [] g t → MayCount a → Came a g t g' t' o → (line_outcome o t'.news ≡ line_told (with_count a start) [] a) × Standing (with_count a start) (after_item (with_count a start) [] a) g' t'
+pub head_right : {start g : Graph} {t : Tables} {a : Item} {g' : Graph} {t' : Tables} {o : Answered} → max_states ≤ start.n → Standing start [] g t → MayCount a → Came a g t g' t' o → (line_outcome o t'.news ≡ line_told (with_count a start) [] a) × Standing (with_count a start) (after_item (with_count a start) [] a) g' t'
 head_right w s m nothing = line_right s tt nothing
 head_right w s m (sent p e q) = line_right s tt (sent p e q)
 head_right w s m malformed = line_right s tt malformed

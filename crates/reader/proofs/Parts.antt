@@ -18,8 +18,8 @@ use Rattle.record.specs.Items.{items}
 use Rattle.record.specs.Splitting.{started, last_newlines, run, after_bytes}
 use Rattle.record.proofs.Splitting.{run_items, stopped_told, last_told, last_over}
 use Rattle.record.proofs.Heading.{MayCount, Headed, items_headed, headed_front, headed_back}
-use Rattle.reader.specs.declared.start.Opened.{Opened}
-use Rattle.reader.specs.declared.start.Opened.TheVariants.{Ready}
+use Rattle.std.specs.Prelude.{Result, Ok}
+use Rattle.tables.specs.declared.refusal.Refusal.{Refusal}
 use Rattle.reader.specs.Opening.{reader_graph, open_refusal, freshened, Opens}
 use Rattle.reader.specs.Replaying.{with_count, start_of, after_item, after_items}
 use Rattle.reader.specs.Standing.{Standing}
@@ -29,17 +29,17 @@ use Rattle.reader.proofs.Lines.{opened_stands}
 use Rattle.reader.proofs.Following.{applies_stands, begins_stands, follows_told, follows_all}
 
 -- Where the call that opens says ready, the tables are fresh, and stand at the start of a record.
-pub ready_opened : {limit : ℕ} {t t' : Tables} {r : Opened} {e : Engine} → Opens limit t t' r → r ≡ Ready e → (open_refusal limit t ≡ none) × (e.graph ≡ reader_graph limit) × (t' ≡ freshened limit t)
+pub ready_opened : {limit : ℕ} {t t' : Tables} {r : Result Engine Refusal} {e : Engine} → Opens limit t t' r → r ≡ Ok e → (open_refusal limit t ≡ none) × (e.graph ≡ reader_graph limit) × (t' ≡ freshened limit t)
 ready_opened {limit} {t} {t'} {r} {e} o q = at (open_refusal limit t) refl
   where
     at : (x : Option ℕ) → open_refusal limit t ≡ x → (open_refusal limit t ≡ none) × (e.graph ≡ reader_graph limit) × (t' ≡ freshened limit t)
     at none z = (z, (let y = o.answer in cc), o.tables ∙ rw z)
     at (some k) z = absurd (let y = o.answer in let w : ◌≡◌ {A = ℕ} 0 1 = cc in omega arith)
 
-pub ready_stands : {limit : ℕ} {t t' : Tables} {r : Opened} {e : Engine} → Opens limit t t' r → r ≡ Ready e → Standing (reader_graph limit) [] e.graph t'
+pub ready_stands : {limit : ℕ} {t t' : Tables} {r : Result Engine Refusal} {e : Engine} → Opens limit t t' r → r ≡ Ok e → Standing (reader_graph limit) [] e.graph t'
 ready_stands {limit} {t} o q = let w = ready_opened o q in rw (w.1, w.2) (opened_stands limit t w.0)
 
-abbrev pub underway_opened : {limit : ℕ} {t t' : Tables} {r : Opened} {e : Engine} {s : Splitter} {g : Graph} → Opens limit t t' r → r ≡ Ready e → s ≡ started → g ≡ e.graph → Underway (reader_graph limit) [] s [] g t'
+abbrev pub underway_opened : {limit : ℕ} {t t' : Tables} {r : Result Engine Refusal} {e : Engine} {s : Splitter} {g : Graph} → Opens limit t t' r → r ≡ Ok e → s ≡ started → g ≡ e.graph → Underway (reader_graph limit) [] s [] g t'
 underway_opened o q z i = record { lines = []; told = λ rest. rw z (sym (run_items rest)); stands = rw i (ready_stands o q) }
 
 after_then : (start : Graph) (h : History) (l m : List Item) → after_items start h (l ++ m) ≡ after_items start (after_items start h l) m

@@ -6,10 +6,10 @@ use mathlib.Core.List.{List, [], ◌∷◌, ◌++◌, append_assoc, append-nil}
 use mathlib.Core.Option.{Option, some, none}
 use Prim.Native.Nat.{ℕ, ◌≤◌}
 use native.Mathlib.Omega.{arith}
-use lib.ListN.{length, take}
+use lib.ListN.{length}
 use Rattle.gid.specs.Histories.{History}
 use Rattle.gid.specs.Refusals.{max_states}
-use Rattle.gid.specs.Outcomes.{Outcome, refused, accepted, by_number}
+use Rattle.gid.specs.Outcomes.{Outcome, accepted, by_number}
 use Rattle.tables.specs.declared.Graph.{Graph}
 use Rattle.tables.specs.Tables.{Tables}
 use Rattle.tables.specs.Keeping.{KeptTables}
@@ -21,53 +21,55 @@ use Rattle.record.specs.declared.splitter.Splitter.{Splitter}
 use Rattle.record.specs.Items.{item_line, items}
 use Rattle.record.specs.Splitting.{started, last_newlines}
 use Rattle.record.proofs.Heading.{NoCounts, Headed, items_headed, bad_alone}
-use Rattle.reader.specs.declared.ReadAnswer.{ReadAnswer}
-use Rattle.reader.specs.declared.ReadAnswer.TheVariants.{Refused as NotRead}
-use Rattle.reader.specs.declared.start.Opened.{Opened}
-use Rattle.reader.specs.declared.start.Opened.TheVariants.{Ready, Refused as NotOpened}
-use Rattle.reader.specs.declared.driver.LineAnswer.{LineAnswer}
-use Rattle.reader.specs.declared.driver.LineAnswer.TheVariants.{Nothing, Accepted, Refused}
+use Rattle.std.specs.Prelude.{Option as Perhaps, None, Some, Result, Ok, Err}
+use Rattle.std.specs.Option.{option_or}
+use Rattle.tables.specs.declared.refusal.Refusal.{Refusal as Why}
+use Rattle.tables.specs.Numbers.{number_of}
+use Rattle.engine.specs.Answers.{Answer, answer_outcome}
+use Rattle.reader.specs.declared.RefusedLine.{RefusedLine}
 use Rattle.reader.specs.declared.driver.Until.TheVariants.{Refusal as UntilRefusal, End}
 use Rattle.reader.specs.Opening.{reader_states, reader_graph, open_refusal, freshened, Opens}
-use Rattle.reader.specs.Turning.{Told, line_outcome, Came, sent, nothing, malformed, bad_names, too_many, states, bad_count}
+use Rattle.reader.specs.Turning.{Told, Answered, line_outcome, Came, sent, nothing, malformed, bad_names, too_many, states, bad_count}
 use Rattle.reader.specs.Replaying.{with_count, start_of, outcome_of, after_item, record_start, history_of, Refusal, or_later, first_refusal}
 use Rattle.reader.specs.Standing.{Standing}
-use Rattle.reader.specs.Advancing.{Passed, items_of, Applies, none as no_line, next, waited, Quiet, Stops, found, ended, Advances, ReadsRest, rests}
-use Rattle.reader.specs.Reading.{Reading, read_outcome, graph_after_record, reading_of, Reads, read_by, read_with}
+use Rattle.reader.specs.Advancing.{Passed, items_of, Applies, none as no_line, next, waited, Quiet, is_refused, Stops, found, ended, Advances}
+use Rattle.reader.specs.Reading.{line_refusal, graph_after_record, reading_of, Reads, refused_by, refused_line}
 use Rattle.reader.proofs.Opening.{opened_kept}
 use Rattle.reader.proofs.Lines.{standing_graph, line_told, line_right, head_right}
 use Rattle.reader.proofs.Parts.{ready_opened, ready_stands, underway_opened, underway_more, underway_follows, underway_last}
 use Rattle.reader.proofs.Following.{applies_same, applies_then, items_then, begins_within, begins_stands}
 
 -- The first refusal among lines that were passed, by what came of each.
-abbrev pub or_refused : LineAnswer → Option Refusal → Option Refusal
-or_refused Nothing r = r
-or_refused (Accepted line k) r = r
-or_refused (Refused line k) r = some (record { line = line; number = k })
+abbrev pub or_refused_by : ℕ → Answer → Option Refusal → Option Refusal
+or_refused_by line (Ok k) r = r
+or_refused_by line (Err w) r = some (record { line = line; number = number_of w })
+
+abbrev pub or_refused : Answered → Option Refusal → Option Refusal
+or_refused None r = r
+or_refused (Some a) r = or_refused_by a.line a.outcome r
 
 abbrev refusal_in : List Passed → Option Refusal
 refusal_in [] = none
 refusal_in (p ∷ l) = or_refused p.answer (refusal_in l)
 
-by_told : (line : ℕ) (x : Outcome (List ℕ)) (o : LineAnswer) (news : List ℕ) → line_outcome o news ≡ some (record { line = line; outcome = x }) → (r : Option Refusal) → or_later x line r ≡ or_refused o r
-by_told line x Nothing news e r = absurd (let z : ◌≡◌ {A = ℕ} 0 1 = cc in omega arith)
-by_told line x (Accepted m k) news e r =
-    let w : ◌≡◌ {A = Told} (record { line = m; outcome = accepted (take k news) }) (record { line = line; outcome = x }) = cc in
-    let z : x ≡ accepted (take k news) = sym (ap (λ (y : Told). y.outcome) w) in
-    rw z
-by_told line x (Refused m k) news e r =
-    let w : ◌≡◌ {A = Told} (record { line = m; outcome = refused k }) (record { line = line; outcome = x }) = cc in
-    let z : x ≡ refused k = sym (ap (λ (y : Told). y.outcome) w) in
-    let y : line ≡ m = sym (ap (λ (y : Told). y.line) w) in
-    rw (z, y)
+outcome_told : (line : ℕ) (a : Answer) (news : List ℕ) (r : Option Refusal) → or_later (answer_outcome a news) line r ≡ or_refused_by line a r
+outcome_told line (Ok k) news r = refl
+outcome_told line (Err w) news r = refl
 
-not_told : (o : LineAnswer) (news : List ℕ) → line_outcome o news ≡ none → (r : Option Refusal) → r ≡ or_refused o r
-not_told Nothing news e r = refl
-not_told (Accepted line k) news e r = refl
-not_told (Refused line k) news e r = absurd (let z : ◌≡◌ {A = ℕ} 0 1 = cc in omega arith)
+by_told : (line : ℕ) (x : Outcome (List ℕ)) (o : Answered) (news : List ℕ) → line_outcome o news ≡ some (record { line = line; outcome = x }) → (r : Option Refusal) → or_later x line r ≡ or_refused o r
+by_told line x None news e r = absurd (let z : ◌≡◌ {A = ℕ} 0 1 = cc in omega arith)
+by_told line x (Some a) news e r =
+    let w : ◌≡◌ {A = Told} (record { line = a.line; outcome = answer_outcome a.outcome news }) (record { line = line; outcome = x }) = cc in
+    let z : x ≡ answer_outcome a.outcome news = sym (ap (λ (y : Told). y.outcome) w) in
+    let y : line ≡ a.line = sym (ap (λ (y : Told). y.line) w) in
+    rw (z, y) (outcome_told a.line a.outcome news r)
+
+not_told : (o : Answered) (news : List ℕ) → line_outcome o news ≡ none → (r : Option Refusal) → r ≡ or_refused o r
+not_told None news e r = refl
+not_told (Some a) news e r = absurd (let z : ◌≡◌ {A = ℕ} 0 1 = cc in omega arith)
 
 -- what the definitions say of a line, and what came of it
-pub told_refused : (start : Graph) (h : History) (a : Item) (o : LineAnswer) (news : List ℕ) → line_outcome o news ≡ line_told start h a → (r : Option Refusal) → or_later (outcome_of start h a) (item_line a) r ≡ or_refused o r
+pub told_refused : (start : Graph) (h : History) (a : Item) (o : Answered) (news : List ℕ) → line_outcome o news ≡ line_told start h a → (r : Option Refusal) → or_later (outcome_of start h a) (item_line a) r ≡ or_refused o r
 told_refused start h NoLine o news e r = not_told o news e r
 told_refused start h (Sent n) o news e r = by_told (item_line (Sent n)) (outcome_of start h (Sent n)) o news e r
 told_refused start h (Malformed n) o news e r = by_told (item_line (Malformed n)) (outcome_of start h (Malformed n)) o news e r
@@ -93,7 +95,7 @@ begins_refused {start} m h s (next {p = p} {l = l} c a) =
     ap (or_refused p.answer) (first_refused h.1 w.1 a)
 
 -- A 17 leaves the tables.
-bad_came : {a : Item} {g g' : Graph} {t t' : Tables} {o : LineAnswer} → Came a g t g' t' o → a ≡ BadCount → t' ≡ t
+bad_came : {a : Item} {g g' : Graph} {t t' : Tables} {o : Answered} → Came a g t g' t' o → a ≡ BadCount → t' ≡ t
 bad_came nothing e = refl
 bad_came (sent p q w) e = absurd (let z : ◌≡◌ {A = ℕ} 0 1 = cc in omega arith)
 bad_came malformed e = refl
@@ -107,55 +109,75 @@ bad_leaves e no_line = refl
 bad_leaves e (next c no_line) = bad_came c (let z = e in cc)
 bad_leaves e (next c (next d a)) = absurd (let z = ap length e in omega arith)
 
--- no line of them is refused
+-- a line that is not refused changes nothing,
+pub quiet_or : (o : Answered) (r : Option Refusal) → waited UntilRefusal o ≡ false → or_refused o r ≡ r
+quiet_or None r e = refl
+quiet_or (Some a) r e = at a.line a.outcome e
+  where
+    at : (line : ℕ) (x : Answer) → is_refused x ≡ false → or_refused_by line x r ≡ r
+    at line (Ok k) e = refl
+    at line (Err w) e = absurd (false≢true (sym e))
+
+-- and so do lines of which none is
 quiet_skips : (l m : List Passed) → Quiet UntilRefusal l → refusal_in (l ++ m) ≡ refusal_in m
 quiet_skips [] m q = refl
-quiet_skips (p ∷ l) m q = by p.answer q.0 ∙ quiet_skips l m q.1
-  where
-    by : (o : LineAnswer) → waited UntilRefusal o ≡ false → or_refused o (refusal_in (l ++ m)) ≡ refusal_in (l ++ m)
-    by Nothing e = refl
-    by (Accepted line k) e = refl
-    by (Refused line k) e = absurd (false≢true (sym e))
+quiet_skips (p ∷ l) m q = quiet_or p.answer (refusal_in (l ++ m)) q.0 ∙ quiet_skips l m q.1
 
 quiet_none : (l : List Passed) → Quiet UntilRefusal l → refusal_in l ≡ none
 quiet_none l q = ap refusal_in (sym (append-nil l)) ∙ quiet_skips l [] q
 
--- The answer for a refusal.
-abbrev reading_with : Engine → Option Refusal → Reading
-reading_with e r = record { graph = e.graph; refusal = r }
-
-by_answer : (e : Engine) (l : List Passed) (left : List ℕ) (o : LineAnswer) → Stops UntilRefusal l left o → read_outcome (read_by e o) ≡ accepted (reading_with e (refusal_in l))
-by_answer e l left o (found before p q quiet w z) = rw q (at o w z)
+-- The first refusal, of what came of two lines of which the first may be refused.
+either : (o : Answered) (p : Perhaps RefusedLine) → line_refusal (option_or (refused_line o) p) ≡ or_refused o (line_refusal p)
+either None p = refl
+either (Some a) p = at a.line a.outcome
   where
-    at : (x : LineAnswer) → waited UntilRefusal x ≡ true → x ≡ p.answer → read_outcome (read_by e x) ≡ accepted (reading_with e (refusal_in (before ++ (p ∷ []))))
-    at Nothing y v = absurd (false≢true y)
-    at (Accepted line k) y v = absurd (false≢true y)
-    at (Refused line k) y v = rw (quiet_skips before (p ∷ []) quiet, ← v)
-by_answer e l left o (ended quiet z w) = rw (w, quiet_none l quiet)
+    at : (line : ℕ) (x : Answer) → line_refusal (option_or (refused_by line x) p) ≡ or_refused_by line x (line_refusal p)
+    at line (Ok k) = refl
+    at line (Err w) = refl
 
-module _ (e : Engine) (l m n : List Passed) (left last : List ℕ) (o o' : LineAnswer) where
-  with_answer : Stops UntilRefusal l left o → (left ≡ [] → m ≡ []) → Stops UntilRefusal n last o' → read_outcome (read_with e o o') ≡ accepted (reading_with e (refusal_in (l ++ (m ++ n))))
-  with_answer (found before p q quiet w z) idle k = rw (q, append_assoc before (p ∷ []) (m ++ n), quiet_skips before (p ∷ (m ++ n)) quiet) (at o w z)
-    where
-      at : (x : LineAnswer) → waited UntilRefusal x ≡ true → x ≡ p.answer → read_outcome (read_with e x o') ≡ accepted (reading_with e (or_refused p.answer (refusal_in (m ++ n))))
-      at Nothing y v = absurd (false≢true y)
-      at (Accepted line k) y v = absurd (false≢true y)
-      at (Refused line k) y v = rw (← v)
-  with_answer (ended quiet z w) idle k = rw (w, idle z, quiet_skips l n quiet) (by_answer e n last o' k)
+-- a refusal is the first one
+pub at_refusal : (o : Answered) (r : Option Refusal) → waited UntilRefusal o ≡ true → or_refused o none ≡ or_refused o r
+at_refusal None r e = absurd (false≢true e)
+at_refusal (Some a) r e = at a.line a.outcome e
+  where
+    at : (line : ℕ) (x : Answer) → is_refused x ≡ true → or_refused_by line x none ≡ or_refused_by line x r
+    at line (Ok k) e = absurd (false≢true e)
+    at line (Err w) e = refl
+
+-- the refusal of a line where it is the only one
+lone : (o : Answered) → line_refusal (refused_line o) ≡ or_refused o none
+lone None = refl
+lone (Some a) = at a.line a.outcome
+  where
+    at : (line : ℕ) (x : Answer) → line_refusal (refused_by line x) ≡ or_refused_by line x none
+    at line (Ok k) = refl
+    at line (Err w) = refl
+
+-- The refusal where the lines up to it stop, or none.
+stop_refusal : (l : List Passed) (left : List ℕ) (o : Answered) → Stops UntilRefusal l left o → line_refusal (refused_line o) ≡ refusal_in l
+stop_refusal l left o (found before p q quiet w z) = lone o ∙ rw (q, quiet_skips before (p ∷ []) quiet, z)
+stop_refusal l left o (ended quiet z w) = rw (w, quiet_none l quiet)
+
+module _ (l m n : List Passed) (left last : List ℕ) (o o' : Answered) where
+  first_of : Stops UntilRefusal l left o → (left ≡ [] → m ≡ []) → Stops UntilRefusal n last o' → line_refusal (option_or (refused_line o) (refused_line o')) ≡ refusal_in (l ++ (m ++ n))
+  first_of (found before p q quiet w z) idle k =
+      either o (refused_line o') ∙ sym (at_refusal o (line_refusal (refused_line o')) w) ∙ at_refusal o (refusal_in (m ++ n)) w ∙
+      rw (q, append_assoc before (p ∷ []) (m ++ n), quiet_skips before (p ∷ (m ++ n)) quiet, z)
+  first_of (ended quiet z w) idle k = rw (w, idle z, quiet_skips l n quiet) (stop_refusal n last o' k)
 
 -- waiting for the end finds no line
-pub only_ended : {l : List Passed} {left : List ℕ} {o : LineAnswer} → Stops End l left o → left ≡ []
+pub only_ended : {l : List Passed} {left : List ℕ} {o : Answered} → Stops End l left o → left ≡ []
 only_ended (found before p q quiet w z) = absurd (false≢true w)
 only_ended (ended quiet e z) = e
 
 -- Refused: the record is not read.
-pub reads_refused : (limit : ℕ) (bytes : List ℕ) {t t' : Tables} {r : Opened} {k : ℕ} → Opens limit t t' r → r ≡ NotOpened k → Reads limit bytes t t' (NotRead k)
-reads_refused limit bytes {t} {t'} {r} {k} o e = at (open_refusal limit t) refl
+pub reads_refused : (limit : ℕ) (bytes : List ℕ) {t t' : Tables} (k : Why) → Opens limit t t' (Err k) → Reads limit bytes t t' (Err k)
+reads_refused limit bytes {t} {t'} k o = at (open_refusal limit t) refl
   where
-    at : (x : Option ℕ) → open_refusal limit t ≡ x → Reads limit bytes t t' (NotRead k)
+    at : (x : Option ℕ) → open_refusal limit t ≡ x → Reads limit bytes t t' (Err k)
     at none q = absurd (let y = o.answer in let z : ◌≡◌ {A = ℕ} 0 1 = cc in omega arith)
     at (some j) q =
-        let z : k ≡ j = let y = o.answer in cc in
+        let z : number_of k ≡ j = let y = o.answer in cc in
         let same : t' ≡ t = o.tables ∙ rw q in
         record {
           answer = rw (q, z);
@@ -168,8 +190,8 @@ reads_refused limit bytes {t} {t'} {r} {k} o e = at (open_refusal limit t) refl
 
 -- Opened: the three parts of the reading.
 module _
-    {limit : ℕ} {bytes : List ℕ} {t t₁ t₂ t₃ t₄ : Tables} {opened : Opened} {start opening e : Engine} {s s₁ s₂ s₃ : Splitter} {g₁ g₂ : Graph} {left₁ left₂ left₃ newline : List ℕ} {o₁ o₂ o₃ : LineAnswer}
-    (opens : Opens limit t t₁ opened) (ready : opened ≡ Ready opening) (begins : s ≡ started) (same : start ≡ opening)
+    {limit : ℕ} {bytes : List ℕ} {t t₁ t₂ t₃ t₄ : Tables} {opened : Result Engine Why} {start opening e : Engine} {s s₁ s₂ s₃ : Splitter} {g₁ g₂ : Graph} {left₁ left₂ left₃ newline : List ℕ} {o₁ o₂ o₃ : Answered}
+    (opens : Opens limit t t₁ opened) (ready : opened ≡ Ok opening) (begins : s ≡ started) (same : start ≡ opening)
     (first : Advances UntilRefusal s bytes start.graph t₁ s₁ left₁ g₁ t₂ o₁)
     (rest : Advances End s₁ left₁ g₁ t₂ s₂ left₂ g₂ t₃ o₂)
     (ends : newline ≡ last_newlines s₂) (last : Advances UntilRefusal s₂ newline g₂ t₃ s₃ left₃ e.graph t₄ o₃) (over : left₃ ≡ []) where
@@ -209,12 +231,12 @@ module _
   past : KeptTables (record_start limit bytes).n (record_start limit bytes).n limit (freshened limit t) t₄
   past = rw told (rw (begun.0, begun.1) at (begins_within headed applied).kept)
 
-  reads_whole : Reads limit bytes t t₄ (read_with e o₁ o₃)
+  pub reads_whole : Reads limit bytes t t₄ (Ok (record { engine = e; refused = option_or (refused_line o₁) (refused_line o₃) }))
   reads_whole =
       let g : e.graph ≡ graph_after_record limit bytes = standing_graph stands in
       record {
         answer =
-            with_answer e first.follows.passed rest.follows.passed last.follows.passed left₁ left₃ o₁ o₃ first.stops rest.idle last.stops ∙
+            ap (λ (x : Option Refusal). accepted (record { graph = e.graph; refusal = x })) (first_of first.follows.passed rest.follows.passed last.follows.passed left₁ left₃ o₁ o₃ first.stops rest.idle last.stops) ∙
             ap (λ (x : Option Refusal). accepted (record { graph = e.graph; refusal = x })) (sym decided) ∙
             ap (λ (x : Graph). accepted (record { graph = x; refusal = first_refusal (record_start limit bytes) [] (items bytes) })) g ∙
             ap (λ (x : Option ℕ). by_number x (reading_of limit bytes)) (sym passes);
@@ -224,9 +246,3 @@ module _
         uncounted = λ q b. bad_leaves (sym told ∙ bad_alone bytes b) applied ∙ begun.1;
         kept = tables_then (opened_kept limit t passes) (rw (begun.0, begun.1) at (applies_same applied).kept);
       }
-
--- Put together from the two calls that read it.
-pub reads_by :
-    {limit : ℕ} {bytes : List ℕ} {t t₁ t₂ t₃ : Tables} {opened : Opened} {start opening : Engine} {s s₁ : Splitter} {g₁ : Graph} {left : List ℕ} {o : LineAnswer} {r : ReadAnswer} →
-    Opens limit t t₁ opened → opened ≡ Ready opening → s ≡ started → start ≡ opening → Advances UntilRefusal s bytes start.graph t₁ s₁ left g₁ t₂ o → ReadsRest s₁ left g₁ t₂ o t₃ r → Reads limit bytes t t₃ r
-reads_by opens ready begins same first (rests rest ends last over q) = rw q (reads_whole opens ready begins same first rest ends last over)

@@ -1,6 +1,6 @@
 -- Opening the tables: "It tests 2 and 3 first, then makes the lent tables fresh (the news list keeps its contents), with n = 2,048 and its caller's step limit."
 -- Assumes nothing.
-use Rattle.std.specs.Prelude.{◌≡◌, ℕ}
+use Rattle.std.specs.Prelude.{◌≡◌, ℕ, Result, Ok, Err}
 use Rattle.std.proofs.Math.Option.{Option, some, none}
 use Rattle.gid.specs.Successors.{no_successor}
 use Rattle.gid.specs.Refusals.{max_states, first}
@@ -9,8 +9,9 @@ use Rattle.tables.specs.declared.Graph.{Graph}
 use Rattle.tables.specs.Tables.{Tables, visited_length, long_enough}
 use Rattle.tables.specs.Keeping.{filled}
 use Rattle.tables.specs.Refused.{lent_rules}
-use Rattle.reader.specs.declared.start.Opened.{Opened}
-use Rattle.reader.specs.declared.start.Opened.TheVariants.{Ready, Refused}
+use Rattle.tables.specs.declared.refusal.Refusal.{Refusal}
+use Rattle.tables.specs.Numbers.{number_of}
+use Rattle.engine.specs.declared.Engine.{Engine}
 
 -- For how many states a reader makes tables fresh.
 abbrev pub reader_states : ℕ
@@ -44,15 +45,15 @@ freshened limit t =
     }
 
 -- Document 01's number and value for each answer: the state value of the fresh tables.
-abbrev pub opened_outcome : Opened → Outcome Graph
-opened_outcome (Ready e) = accepted e.graph
-opened_outcome (Refused k) = refused k
+abbrev pub opened_outcome : Result Engine Refusal → Outcome Graph
+opened_outcome (Ok e) = accepted e.graph
+opened_outcome (Err r) = refused (number_of r)
 
 -- The tables after it: as they were where it is refused.
 abbrev pub opened_tables : ℕ → Tables → Option ℕ → Tables
 opened_tables limit t none = freshened limit t
 opened_tables limit t (some k) = t
 
-pub record Opens (limit : ℕ) (t t' : Tables) (r : Opened) : Type 0 where
+pub record Opens (limit : ℕ) (t t' : Tables) (r : Result Engine Refusal) : Type 0 where
   pub answer : opened_outcome r ≡ by_number (open_refusal limit t) (reader_graph limit)
   pub tables : t' ≡ opened_tables limit t (open_refusal limit t)

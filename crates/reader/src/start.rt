@@ -1,68 +1,50 @@
 // Opening the tables: "It tests 2 and 3 first, then makes the lent tables fresh".
-ghost use Rattle.tables.specs.Tables.{tables_of};
-ghost use Rattle.reader.specs.Opening.{Opens};
+ghost use Rattle.std.specs.Prelude.{◌≡◌};
+ghost use Rattle.tables.specs.Tables.{Long};
+ghost use Rattle.tables.specs.Lending.{contents, StillLent};
+ghost use Rattle.reader.specs.Opening.{reader_states, freshened, Opens};
 
 use engine::Engine;
-use tables::{Graph, Lengths, MAX_STATES, NO_SUCCESSOR, fill, fill_bytes, visited_len};
-
-// The state value of the fresh tables, or the number of a refusal.
-#[derive(Clone, Copy)]
-pub enum Opened {
-    Ready(Engine),
-    Refused(u8),
-}
+use tables::{Graph, LentTables, MAX_STATES, MAX_VISITED, NO_SUCCESSOR, Refusal};
 
 // Tests 2 and 3, then makes the lent tables fresh for 2,048 states and a step limit. "the news list keeps its contents"
-pub fn open(
-    limit: usize,
-    status: &mut [u8],
-    marks: &mut [u8],
-    from: &mut [u16],
-    to: &mut [u16],
-    key: &mut [u8],
-    successor: &mut [u16],
-    news: &mut [u16],
-    in_head: &mut [u16],
-    out_head: &mut [u16],
-    queue: &mut [u16],
-    visited: &mut [u16],
-    in_next: &mut [u16],
-    out_next: &mut [u16],
-) -> Opened
-    ensures { Opens limit (tables_of status.old marks.old from.old to.old key.old successor.old news.old in_head.old out_head.old queue.old visited.old in_next.old out_next.old) (tables_of status.new marks.new from.new to.new key.new successor.new news.new in_head.new out_head.new queue.new visited.new in_next.new out_next.new) result }
+pub fn open(limit: usize, tables: &mut LentTables) -> Result<Engine, Refusal>
+    ensures still_lent { StillLent tables.old tables.new }
+    ensures opens { Opens limit (contents tables.old) (contents tables.new) result }
 {
-    let lengths = Lengths {
-        status: status.len(),
-        marks: marks.len(),
-        successor: successor.len(),
-        news: news.len(),
-        in_head: in_head.len(),
-        out_head: out_head.len(),
-        queue: queue.len(),
-        visited: visited.len(),
-        from: from.len(),
-        to: to.len(),
-        key: key.len(),
-        in_next: in_next.len(),
-        out_next: out_next.len(),
-    };
     let graph = Graph {
         n: MAX_STATES,
         limit,
         steps: 0,
     };
-    let refused = graph.lent(lengths.enough(MAX_STATES, graph.nodes(), limit));
-    if refused != 0 {
-        return Opened::Refused(refused);
-    }
-    fill_bytes(status, MAX_STATES, 0);
-    fill_bytes(marks, MAX_STATES, 0);
-    fill(successor, MAX_STATES, NO_SUCCESSOR);
-    fill(in_head, MAX_STATES, 0);
-    fill(out_head, MAX_STATES, 0);
-    fill(queue, MAX_STATES, 0);
-    fill(visited, visited_len(MAX_STATES), 0);
-    fill(in_next, limit, 0);
-    fill(out_next, limit, 0);
-    Opened::Ready(Engine { graph })
+    let lengths = tables.lengths();
+    graph.lent(lengths.enough(graph.n, graph.nodes(), limit))?;
+    freshen(limit, tables);
+    Ok(Engine { graph })
+}
+
+// "Fresh tables have status and marks 0, successors 65,535, no steps, and 0 in every needed work entry."
+fn freshen(limit: usize, tables: &mut LentTables)
+    requires { Long reader_states reader_states limit (contents tables.old) }
+    ensures still_lent { StillLent tables.old tables.new }
+    ensures fresh { contents tables.new ≡ freshened limit (contents tables.old) }
+{
+    let status = &mut *tables.status;
+    let marks = &mut *tables.marks;
+    let successor = &mut *tables.successor;
+    let in_head = &mut *tables.in_head;
+    let out_head = &mut *tables.out_head;
+    let queue = &mut *tables.queue;
+    let visited = &mut *tables.visited;
+    let in_next = &mut *tables.in_next;
+    let out_next = &mut *tables.out_next;
+    status[..MAX_STATES].fill(0);
+    marks[..MAX_STATES].fill(0);
+    successor[..MAX_STATES].fill(NO_SUCCESSOR);
+    in_head[..MAX_STATES].fill(0);
+    out_head[..MAX_STATES].fill(0);
+    queue[..MAX_STATES].fill(0);
+    visited[..MAX_VISITED].fill(0);
+    in_next[..limit].fill(0);
+    out_next[..limit].fill(0);
 }

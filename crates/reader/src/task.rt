@@ -17,8 +17,8 @@ pub enum Task {
 pub fn piece_or<'a>(piece: &'a [u8], newline: &'a [u8]) -> &'a [u8]
     ensures { result.now ≡ piece_or piece.now newline.now }
 {
-    if 0 < piece.len() {
-        return piece;
+    if piece.is_empty() {
+        return newline;
     }
-    newline
+    piece
 }

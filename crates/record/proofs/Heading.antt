@@ -7,10 +7,14 @@ use mathlib.Core.List.{List, [], ◌∷◌, ◌++◌, append_assoc}
 use mathlib.Core.Option.{Option, some, none}
 use Prim.Native.Nat.{ℕ, ◌+◌, ◌≤◌, ◌<◌}
 use native.Mathlib.Omega.{arith}
-use lib.Dec.{leb}
-use lib.ListN.{length, get_or, take, drop, length-append, drop_of_length-le}
+use lib.Dec.{leb, ltb, eqb}
+use lib.ListN.{length, take, drop, length-append}
 use lib.Seq.{take_at, take-length, drop_at}
-use borrow.Author.Tests.{eq-eqb, ne_eqb}
+use borrow.Author.Tests.{ltb-false}
+use Rattle.std.specs.Prelude.{Some, None, position}
+use Rattle.std.specs.Option.{unwrap_or}
+use Rattle.std.specs.List.{position_or_len}
+use Rattle.std.proofs.lemmas.List.Recursion.{is_position_or_len}
 use Rattle.gid.specs.Refusals.{max_states}
 use Rattle.gid.specs.declared.Update.{Update}
 use Rattle.record.specs.declared.line.Form.{Form}
@@ -23,8 +27,7 @@ use Rattle.record.specs.Lines.{lines, before}
 use Rattle.record.specs.Items.{same, line_item, max_lines, further, from_names, count_items, from_count, all, items, count_in}
 use Rattle.record.specs.Splitting.{count_fed}
 use Rattle.record.proofs.Reading.{count_only}
-use Rattle.record.proofs.Splitting.{Unbroken, lines_break, lines_last, Broken, broken}
-use Rattle.record.proofs.Indexed.{here}
+use Rattle.record.proofs.Splitting.{Unbroken, lines_break, lines_last, Broken, broken, before_length}
 
 -- The lines behind a count hold none.
 abbrev pub NoCount : Item → Type 0
@@ -202,20 +205,24 @@ before_front s n e = rw e (by (broken s))
     by (k, inl q) = ap (λ (x : List ℕ). take (length x) s) q ∙ take-length s ∙ sym q
     by (k, inr (v, q)) = ap (take (length (before s))) q ∙ take_at (before s) (10 ∷ v) (length (before s)) refl
 
--- and they end at a newline, or where no byte is left
-module _ (s : List ℕ) (i : ℕ) where
-  pub before_over : length s ≤ i → i ≡ i + length (before (drop i s))
-  unfolding before
-  before_over h = rw (drop_of_length-le s h) (omega arith)
+-- and there are as many as the place of the newline says, or all
+before_counted : (s : List ℕ) → length (before s) ≡ position_or_len (λ b. eqb b 10) s
+unfolding before
+before_counted = is_position_or_len (λ s. length (before s)) (λ b. eqb b 10) refl more
+  where
+    more : (x : ℕ) (s : List ℕ) → length (before (x ∷ s)) ≡ cond (eqb x 10) 0 (1 + length (before s))
+    more x s = by (eqb x 10)
+      where
+        by : (t : Bool) → length (cond t [] (x ∷ before s)) ≡ cond t 0 (1 + length (before s))
+        by true = refl
+        by false = omega arith
 
-  module _ (h : i < length s) where
-    pub before_break : get_or s i 0 ≡ 10 → i ≡ i + length (before (drop i s))
-    unfolding before
-    before_break e = rw (here s i h, eq-eqb (get_or s i 0) 10 e) (omega arith)
-
-    pub before_more : (get_or s i 0 ≡ 10 → ⊥) → i + length (before (drop i s)) ≡ i + 1 + length (before (drop (i + 1) s))
-    unfolding before
-    before_more e = rw (here s i h, ne_eqb (get_or s i 0) 10 e) (omega arith)
+pub before_position : (s : List ℕ) → unwrap_or (position (λ b. eqb b 10) s) (length s) ≡ length (before s)
+before_position s = rw (← before_counted s) (by (ltb (length (before s)) (length s)) refl)
+  where
+    by : (t : Bool) → ltb (length (before s)) (length s) ≡ t → unwrap_or (cond t (Some (length (before s))) None) (length s) ≡ length (before s)
+    by true e = refl
+    by false e = omega (arith, ltb-false (length (before s)) (length s) e, before_length s)
 
 module _ (s : List ℕ) where
   -- The first line is another.

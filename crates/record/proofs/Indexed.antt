@@ -1,39 +1,25 @@
 -- The grammar at an index of the line: what each of its functions gives by the byte that stands there.
 -- Assumes nothing.
-use mathlib.Core.Path.{◌≡◌, refl, sym, ◌∙◌, ap}
+use mathlib.Core.Path.{◌≡◌, refl, sym, ◌∙◌}
 use mathlib.Core.Bool.{Bool, true, false, cond, ◌&&◌, false≢true}
 use mathlib.Core.List.{List, [], ◌∷◌}
-use mathlib.Core.Option.{Option, some, none}
+use mathlib.Core.Option.{some, none}
 use Prim.Native.Nat.{ℕ, ◌+◌, ◌*◌, ◌-◌, ◌≤◌, ◌<◌}
 use native.Mathlib.Numerals.{add-one}
 use native.Mathlib.Omega.{arith}
 use lib.Dec.{leb}
-use lib.ListN.{length, get_or, drop, drop_of_length-le}
+use lib.ListN.{length, get_or, drop, drop_of_length-le, length-drop}
 use lib.Seq.{drop-cons}
 use borrow.Author.Tests.{eq-eqb, ne_eqb, le-leb, lt-leb, leb-true}
 use Rattle.gid.specs.declared.Update.{Update}
 use Rattle.record.specs.declared.line.Form.{Form}
-use Rattle.record.specs.declared.grammar.Digit.{Digit}
-use Rattle.record.specs.declared.grammar.Digit.TheVariants.{Of, Other}
-use Rattle.record.specs.declared.grammar.Value.{Value}
-use Rattle.record.specs.declared.grammar.Value.TheVariants.{Number, Malformed as NoValue}
-use Rattle.record.specs.declared.grammar.After.{After}
-use Rattle.record.specs.declared.grammar.After.TheVariants.{At, Malformed as NotThere}
-use Rattle.record.specs.Parsing.{digit_of, front, rest}
-use Rattle.record.specs.Grammar.{Front, is_digit, digits, value, behind, whole, no_key, mark_with, update, fields, line_of, ◌and_then◌}
+use Rattle.std.specs.Prelude.{Option as Answer, Some, None}
+use Rattle.std.specs.List.{slice_get}
+use Rattle.record.specs.Parsing.{digit_of}
+use Rattle.record.specs.Grammar.{is_digit, digits, value, behind, whole, update, fields, line_of, count_of, ◌and_then◌}
 
 pub is-digit : (b : ℕ) → 48 ≤ b → b ≤ 57 → is_digit b ≡ true
 is-digit b p q = rw (le-leb 48 b p, le-leb b 57 q)
-
-pub below_digits : (b : ℕ) → b < 48 → is_digit b ≡ false
-below_digits b p = rw (lt-leb 48 b p)
-
-pub above_digits : (b : ℕ) → 57 < b → is_digit b ≡ false
-above_digits b p = by (leb 48 b)
-  where
-    by : (t : Bool) → (t && leb b 57) ≡ false
-    by true = lt-leb b 57 p
-    by false = refl
 
 module _ (l : List ℕ) (at : ℕ) where
   pub here : at < length l → drop at l ≡ get_or l at 0 ∷ drop (at + 1) l
@@ -55,10 +41,6 @@ module _ (l : List ℕ) (at : ℕ) where
     pub whole_end : (x : Update) → whole x (drop at l) ≡ some x
     whole_end x = rw (drop_of_length-le l h)
 
-    pub mark_end : (f : Form) (x : Update) → mark_with f x (drop at l) ≡ none
-    unfolding mark_with
-    mark_end f x = rw (behind_end 45)
-
   module _ (h : at < length l) where
     pub behind_same : (b : ℕ) → get_or l at 0 ≡ b → behind b (drop at l) ≡ some (drop (at + 1) l)
     unfolding behind
@@ -75,9 +57,9 @@ module _ (l : List ℕ) (at : ℕ) where
     unfolding value
     value_zero e = rw (here h, eq-eqb (get_or l at 0) 48 e)
 
-    pub value_digits : 49 ≤ get_or l at 0 → get_or l at 0 ≤ 57 → value (drop at l) ≡ digits (get_or l at 0 - 48) (drop (at + 1) l)
+    pub value_digits : is_digit (get_or l at 0) ≡ true → (get_or l at 0 ≡ 48 → ⊥) → value (drop at l) ≡ digits (get_or l at 0 - 48) (drop (at + 1) l)
     unfolding value
-    value_digits p q = rw (here h, ne_eqb (get_or l at 0) 48 (λ e. omega arith), is-digit (get_or l at 0) (omega arith) q)
+    value_digits d n = rw (here h, ne_eqb (get_or l at 0) 48 n, d)
 
     pub value_other : is_digit (get_or l at 0) ≡ false → (get_or l at 0 ≡ 48 → ⊥) → value (drop at l) ≡ none
     unfolding value
@@ -95,14 +77,6 @@ module _ (l : List ℕ) (at : ℕ) where
     unfolding digits
     digits_more n e p = rw (here h, e, le-leb (n * 10 + (get_or l at 0 - 48)) 65535 p)
 
-    pub mark_other : (f : Form) (x : Update) → (get_or l at 0 ≡ 45 → ⊥) → mark_with f x (drop at l) ≡ none
-    unfolding mark_with
-    mark_other f x e = rw (behind_other 45 e)
-
-    pub mark_dash : (f : Form) (x : Update) → get_or l at 0 ≡ 45 → mark_with f x (drop at l) ≡ (no_key f (drop (at + 1) l) and_then whole x)
-    unfolding mark_with
-    mark_dash f x e = rw (behind_same 45 e)
-
 pub digit_bounds : (b : ℕ) → is_digit b ≡ true → (48 ≤ b) × (b ≤ 57)
 digit_bounds b = by (leb 48 b) refl
   where
@@ -111,43 +85,47 @@ digit_bounds b = by (leb 48 b) refl
     by false p e = absurd (false≢true e)
 
 -- what was found of a byte
-pub digit_found : (b : ℕ) {f : Digit} {d : ℕ} → f ≡ digit_of b → f ≡ Of d → (is_digit b ≡ true) × (d ≡ b - 48) × (d ≤ 9)
-digit_found b {f} {d} p q = by (is_digit b) refl (sym p ∙ q)
+pub digit_found : (b : ℕ) {o : Answer ℕ} {d : ℕ} → o ≡ digit_of b → o ≡ Some d → (is_digit b ≡ true) × (d ≡ b - 48) × (d ≤ 9)
+digit_found b {o} {d} p q = by (is_digit b) refl (sym p ∙ q)
   where
-    by : (t : Bool) → is_digit b ≡ t → cond t (Of (b - 48)) Other ≡ Of d → (is_digit b ≡ true) × (d ≡ b - 48) × (d ≤ 9)
+    by : (t : Bool) → is_digit b ≡ t → cond t (Some (b - 48)) None ≡ Some d → (is_digit b ≡ true) × (d ≡ b - 48) × (d ≤ 9)
     by true h e =
         let z : d ≡ b - 48 = cc in
         (h, z, omega (arith, digit_bounds b h))
-    by false h e = absurd (let z : ◌≡◌ {A = ℕ} 0 1 = cc in omega arith)
+    by false h e = cc
 
-pub no_digit_found : (b : ℕ) {f : Digit} → f ≡ digit_of b → f ≡ Other → is_digit b ≡ false
-no_digit_found b {f} p q = by (is_digit b) refl (sym p ∙ q)
+pub no_digit_found : (b : ℕ) {o : Answer ℕ} → o ≡ digit_of b → o ≡ None → is_digit b ≡ false
+no_digit_found b {o} p q = by (is_digit b) refl (sym p ∙ q)
   where
-    by : (t : Bool) → is_digit b ≡ t → cond t (Of (b - 48)) Other ≡ Other → is_digit b ≡ false
-    by true h e = absurd (let z : ◌≡◌ {A = ℕ} 0 1 = cc in omega arith)
+    by : (t : Bool) → is_digit b ≡ t → cond t (Some (b - 48)) None ≡ None → is_digit b ≡ false
+    by true h e = cc
     by false h e = h
 
--- what an answer says of the definition that it was given for
-module _ (l : List ℕ) where
-  pub no_value : {v : Value} {o : Option Front} → front l v ≡ o → v ≡ NoValue → o ≡ none
-  no_value e p = sym e ∙ ap (front l) p
-
-  pub a_value : {v : Value} {o : Option Front} {n i : ℕ} → front l v ≡ o → v ≡ Number n i → o ≡ some (record { number = n; rest = drop i l })
-  a_value e p = sym e ∙ ap (front l) p
-
-  pub no_rest : {a : After} {o : Option (List ℕ)} → rest l a ≡ o → a ≡ NotThere → o ≡ none
-  no_rest e p = sym e ∙ ap (rest l) p
-
-  pub a_rest : {a : After} {o : Option (List ℕ)} {i : ℕ} → rest l a ≡ o → a ≡ At i → o ≡ some (drop i l)
-  a_rest e p = sym e ∙ ap (rest l) p
-
 -- the line from its first byte on
-pub no_line : (f : Form) (l : List ℕ) → length l ≡ 0 → line_of f l ≡ none
+pub no_line : (f : Form) (l : List ℕ) → slice_get l 0 ≡ None → line_of f l ≡ none
 unfolding line_of fields
 no_line f [] e = refl
-no_line f (k ∷ l) e = absurd (omega arith)
+no_line f (k ∷ l) e = cc
 
-pub from_kind : (f : Form) (l : List ℕ) → (length l ≡ 0 → ⊥) → length l ≤ 16 → line_of f l ≡ (behind 32 (drop 1 l) and_then value and_then λ from. behind 32 from.rest and_then update f (get_or l 0 0) from.number)
+pub from_kind : (f : Form) (l : List ℕ) (k : ℕ) → slice_get l 0 ≡ Some k → length l ≤ 16 → line_of f l ≡ (behind 32 (drop 1 l) and_then value and_then λ from. behind 32 from.rest and_then update f k from.number)
 unfolding line_of fields
-from_kind f [] n h = absurd (n refl)
-from_kind f (k ∷ l) n h = rw (le-leb (length (k ∷ l)) 16 h)
+from_kind f [] k e h = cc
+from_kind f (b ∷ l) k e h =
+    let same : b ≡ k = cc in
+    rw (le-leb (length (b ∷ l)) 16 h, same)
+
+-- the count that a value is, where the line ends behind it
+module _ (l : List ℕ) (n i : ℕ) (h : value l ≡ some (record { number = n; rest = drop i l })) where
+  pub count_found : length l ≤ i → 1 ≤ n → n ≤ 2048 → count_of l ≡ some n
+  unfolding count_of
+  count_found p q r = rw (h, le-leb (length (drop i l)) 0 (omega (arith, length-drop i l)), le-leb 1 n q, le-leb n 2048 r)
+
+  pub count_missed : (length l ≤ i → 1 ≤ n → n ≤ 2048 → ⊥) → count_of l ≡ none
+  unfolding count_of
+  count_missed k = rw h (by (leb (length (drop i l)) 0) (leb 1 n) (leb n 2048) refl refl refl)
+    where
+      by : (t u v : Bool) → leb (length (drop i l)) 0 ≡ t → leb 1 n ≡ u → leb n 2048 ≡ v → cond (t && (u && v)) (some n) none ≡ none
+      by true true true p q r = absurd (k (omega (arith, length-drop i l, leb-true (length (drop i l)) 0 p)) (leb-true 1 n q) (leb-true n 2048 r))
+      by true true false p q r = refl
+      by true false v p q r = refl
+      by false u v p q r = refl

@@ -7,4 +7,5 @@ pub mod Reading
 pub mod Splitting
 pub mod Writing
 pub mod Placing
+pub mod Putting
 pub mod Heading

@@ -13,11 +13,11 @@ use lib.Dec.{leb, ltb, eqb}
 use lib.ListN.{length, take, drop, set, length-append, length-drop, length-set, drop_of_length-le}
 use lib.Seq.{take-suc-set, drop-drop, drop_at}
 use borrow.Author.Tests.{eq-eqb, ne_eqb, le-leb, lt-leb, leb-true, eqb-true, eqb-false, lt-ltb, le-ltb, ltb-true, ltb-false}
+use Rattle.std.specs.Prelude.{Some, None, is_some}
 use Rattle.gid.specs.declared.Update.{Update}
 use Rattle.record.specs.declared.line.Form.{Form}
 use Rattle.record.specs.declared.line.Form.TheVariants.{Plain, Keyed}
 use Rattle.record.specs.declared.line.Line.{Line}
-use Rattle.record.specs.declared.grammar.Count.TheVariants.{Of as IsCount, Malformed as NotCount}
 use Rattle.record.specs.declared.splitter.Item.{Item}
 use Rattle.record.specs.declared.splitter.Item.TheVariants.{Nothing, BadNames, TooMany, States, BadCount}
 use Rattle.record.specs.declared.splitter.Phase.{Phase}
@@ -29,7 +29,7 @@ use Rattle.record.specs.Grammar.{value, line_of, count_of}
 use Rattle.record.specs.Lines.{lines, before}
 use Rattle.record.specs.Items.{same, line_item, max_lines, further, from_names, count_items, from_count, all, items, item_line}
 use Rattle.record.specs.Buffer.{empty_line, with_byte, with_bytes, line_in, is_names_in, is_states_in, line_count}
-use Rattle.record.specs.Parsing.{parsed, parsed_count, is_count}
+use Rattle.record.specs.Parsing.{parsed}
 use Rattle.record.specs.Splitting.{at, fed, advanced, started, names_fed, after_names, count_fed, after_first, after_further, in_phase, after_line, after_byte, after_part, is_head, awaited, pending, last_newlines, told, tells, run, after_bytes, item_of}
 use Rattle.record.proofs.Sameness.{other_length}
 use Rattle.record.proofs.Reading.{count_long}
@@ -39,13 +39,19 @@ parsed_item none n = refl
 parsed_item (some x) n = refl
 
 -- what was found of a count line
-pub a_count : (o : Option ℕ) {c : ℕ} → parsed_count o ≡ IsCount c → o ≡ some c
-a_count none e = absurd (let z : ◌≡◌ {A = ℕ} 0 1 = cc in omega arith)
+pub a_count : (o : Option ℕ) {c : ℕ} → parsed o ≡ Some c → o ≡ some c
+a_count none e = cc
 a_count (some d) e = cc
 
-pub no_count : (o : Option ℕ) → parsed_count o ≡ NotCount → o ≡ none
+pub no_count : (o : Option ℕ) → parsed o ≡ None → o ≡ none
 no_count none e = refl
-no_count (some d) e = absurd (let z : ◌≡◌ {A = ℕ} 0 1 = cc in omega arith)
+no_count (some d) e = cc
+
+pub in_head : (p : Phase) → ((f : Form) → p ≡ Further f → ⊥) → is_head p ≡ true
+in_head First h = refl
+in_head Count h = refl
+in_head Names h = refl
+in_head (Further f) h = absurd (h f refl)
 
 -- The buffer b holds a line whose bytes so far are l.
 pub data Holds (b : Line) (l : List ℕ) : Type 0 where
@@ -207,11 +213,11 @@ module _ (s : Splitter) (goes : s.stopped ≡ false) where
       by true = refl
       by false = sym (names_lead 1 s.line)
 
-  pub count_leads : s.phase ≡ Count → is_count (parsed_count (line_count s.line)) ≡ awaited (after_line s).splitter
+  pub count_leads : s.phase ≡ Count → is_some (parsed (line_count s.line)) ≡ awaited (after_line s).splitter
   unfolding awaited after_line in_phase
   count_leads e = rw (goes, e) (by (line_count s.line))
     where
-      by : (o : Option ℕ) → is_count (parsed_count o) ≡ awaited (count_fed o).splitter
+      by : (o : Option ℕ) → is_some (parsed o) ≡ awaited (count_fed o).splitter
       by none = refl
       by (some c) = refl
 

@@ -1,5 +1,6 @@
 -- What a record is. This is what a reader believes, in the words of documents 01 and 02:
 pub mod Text
+pub mod Putting
 pub mod Grammar
 pub mod Lines
 pub mod Items

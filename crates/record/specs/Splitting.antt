@@ -1,12 +1,11 @@
 -- The splitter's steps: what a byte and the end of the record do. proofs/Splitting.antt proves that what is told is the items of the record.
 -- Assumes nothing.
-use Rattle.std.specs.Prelude.{Bool, true, false, cond, List, [], ◌∷◌, ◌++◌, ℕ, ◌+◌, leb, ltb, eqb, length}
+use Rattle.std.specs.Prelude.{Bool, true, false, cond, List, [], ◌∷◌, ◌++◌, ℕ, ◌+◌, leb, ltb, eqb, length, Option as Answer, Some, None}
 use Rattle.std.proofs.Math.Option.{Option, some, none}
 use Rattle.record.specs.declared.line.Form.{Form}
 use Rattle.record.specs.declared.line.Form.TheVariants.{Plain, Keyed}
 use Rattle.record.specs.declared.line.Line.{Line}
-use Rattle.record.specs.declared.grammar.Parsed.{Parsed}
-use Rattle.record.specs.declared.grammar.Parsed.TheVariants.{Update as IsUpdate, Malformed as IsMalformed}
+use Rattle.gid.specs.declared.Update.{Update as Change}
 use Rattle.record.specs.declared.splitter.Item.{Item}
 use Rattle.record.specs.declared.splitter.Item.TheVariants.{Nothing, Update as Read, Malformed, BadNames, TooMany, States, BadCount}
 use Rattle.record.specs.declared.splitter.Phase.{Phase}
@@ -112,6 +111,7 @@ unfoldable pub after_bytes : Splitter → List ℕ → Splitter
 after_bytes s [] = s
 after_bytes s (b ∷ l) = after_bytes (after_byte s b).splitter l
 
-abbrev pub item_of : Parsed → ℕ → Item
-item_of (IsUpdate x) n = Read (record { line = n; update = x })
-item_of IsMalformed n = Malformed n
+-- What a further line tells, by what it is.
+abbrev pub item_of : Answer Change → ℕ → Item
+item_of (Some x) n = Read (record { line = n; update = x })
+item_of None n = Malformed n

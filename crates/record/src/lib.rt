@@ -7,8 +7,5 @@ mod splitter;
 mod text;
 
 pub use line::{Form, Line};
-pub use splitter::{
-    Advanced, BAD_COUNT, BAD_NAMES, Item, MALFORMED, MAX_LINES, Numbered, Splitter, TOO_MANY_LINES,
-    states_of,
-};
-pub use text::{put_bytes, put_bytes_at, put_number_at, put_update};
+pub use splitter::{Advanced, Item, MAX_LINES, Numbered, Splitter, states_of};
+pub use text::TextBuffer;

@@ -1,7 +1,6 @@
 // The line buffer: "The reader collects each line in its own 16 bytes before judging it."
-ghost use Rattle.std.specs.Prelude.{◌≡◌};
+ghost use Rattle.std.specs.Prelude.{◌≡◌, ◌≤◌, ◌<◌, take, MatchOption};
 ghost use Rattle.record.specs.Text.{names};
-ghost use Rattle.record.specs.Items.{same};
 ghost use Rattle.record.specs.Buffer.{empty_line, filled_from, is_names_in, is_states_in};
 
 // The two forms of a record, by its names line: `kind from to`, and `kind from to key`.
@@ -41,71 +40,56 @@ impl Line {
         ensures { result ≡ filled_from self s.now at }
     {
         let mut line = self;
-        let mut i = at;
-        while i < s.len() {
+        for i in at..s.len() {
             let b = s[i];
             if b == b'\n' {
                 return Filled { line, next: i };
             }
+            // The length is read once, so that it stays in a register.
             let len = line.len;
-            if 16 <= len {
+            if len < 16 {
+                line.bytes[len] = b;
+                line.len = len + 1;
+            } else {
                 line.len = 17;
-                i += 1;
-                continue;
             }
-            line.bytes[len] = b;
-            line.len = len + 1;
-            i += 1;
         }
-        Filled { line, next: i }
+        Filled {
+            line,
+            next: at.max(s.len()),
+        }
     }
 
     // Whether the line is the names line of a form.
     pub fn is_names(self, form: Form) -> bool
         ensures { result ≡ is_names_in form self }
     {
-        let len = self.len;
-        if 16 < len {
-            return false;
-        }
         let bytes = self.bytes;
-        equal_names(&bytes[..len], form)
+        content(&bytes, self.len) == Some(names(form))
     }
 
     // Whether the line is `states`.
     pub fn is_states(self) -> bool
         ensures { result ≡ is_states_in self }
     {
-        let len = self.len;
-        if 16 < len {
-            return false;
-        }
         let bytes = self.bytes;
-        equal(&bytes[..len], b"states")
+        content(&bytes, self.len) == Some(b"states".as_slice())
     }
 }
 
-fn equal_names(s: &[u8], form: Form) -> bool
-    ensures { result ≡ same s.now (names form) }
+// The bytes of a line, where there are at most 16. A line lends a copy of them: one that lends its own is kept in memory while it is filled, which costs time.
+pub(crate) fn content(bytes: &[u8; 16], len: usize) -> Option<&[u8]>
+    ensures { MatchOption result (16 < len) (λ s. (len ≤ 16) × (s.now ≡ take len bytes.now)) }
+{
+    if 16 < len { None } else { Some(&bytes[..len]) }
+}
+
+// The names line of a form.
+fn names(form: Form) -> &'static [u8]
+    ensures { result.now ≡ names form }
 {
     match form {
-        Form::Plain => equal(s, b"kind from to"),
-        Form::Keyed => equal(s, b"kind from to key"),
+        Form::Plain => b"kind from to",
+        Form::Keyed => b"kind from to key",
     }
-}
-
-pub fn equal(a: &[u8], b: &[u8]) -> bool
-    ensures { result ≡ same a.now b.now }
-{
-    if a.len() != b.len() {
-        return false;
-    }
-    let mut i = 0;
-    while i < a.len() {
-        if a[i] != b[i] {
-            return false;
-        }
-        i += 1;
-    }
-    true
 }

@@ -1,25 +1,14 @@
 // The splitter: it is fed a record in parts of any length, and answers what each line is as the line ends.
-ghost use Rattle.std.specs.Prelude.{◌≡◌, ◌≤◌, length};
-ghost use Rattle.record.specs.Splitting.{started, names_fed, after_names, count_fed, after_first, after_further, after_line, after_part, awaited, pending, last_newlines, item_of};
-ghost use Rattle.record.specs.Buffer.{line_count};
-ghost use Rattle.record.specs.Parsing.{is_count};
+ghost use Rattle.std.specs.Prelude.{◌≡◌, ◌≤◌, true, false, length};
+ghost use Rattle.record.specs.Splitting.{at, fed, started, names_fed, after_names, count_fed, after_first, after_further, after_line, after_part, awaited, pending, last_newlines, item_of};
+ghost use Rattle.record.specs.Buffer.{empty_line, line_count};
 ghost use Rattle.record.specs.Items.{items, count_in};
 ghost use Rattle.record.specs.Lines.{before};
 ghost use Rattle.record.specs.Grammar.{count_of};
 
-use crate::grammar::{Count, Parsed, count_bytes};
-use crate::line::{Form, Line, equal};
+use crate::grammar::count_bytes;
+use crate::line::{Filled, Form, Line};
 use gid::Update;
-
-// "10: the names line is not exact."
-pub const BAD_NAMES: u8 = 10;
-// "11: a line is malformed."
-pub const MALFORMED: u8 = 11;
-// "12: line 65,536 exists"
-pub const TOO_MANY_LINES: u8 = 12;
-
-// "17 as line 2": the count is missing or is none.
-pub const BAD_COUNT: u8 = 17;
 
 pub const MAX_LINES: usize = 65535;
 
@@ -36,15 +25,15 @@ pub enum Item {
     // No line has ended, or reading has stopped.
     Nothing,
     Update(Numbered),
-    // MALFORMED, with its line number.
+    // "11: a line is malformed", with its line number.
     Malformed(usize),
-    // BAD_NAMES, with its line number: 1, or 3 behind a count.
+    // "10: the names line is not exact", with its line number: 1, or 3 behind a count.
     BadNames(usize),
-    // TOO_MANY_LINES, at line 65,536.
+    // "12: line 65,536 exists".
     TooMany,
     // The count of the record's states, at line 2.
     States(usize),
-    // BAD_COUNT, at line 2.
+    // "17 as line 2": the count is missing or is none.
     BadCount,
 }
 
@@ -88,15 +77,47 @@ pub struct Advanced {
     pub next: usize,
 }
 
+impl Fed {
+    // The next line begins.
+    fn next(number: usize, phase: Phase, item: Item) -> Fed
+        ensures { result ≡ fed (at empty_line number false phase) item }
+    {
+        Fed {
+            splitter: Splitter::begin(number, phase),
+            item,
+        }
+    }
+
+    // Reading stops.
+    fn stop(number: usize, phase: Phase, item: Item) -> Fed
+        ensures { result ≡ fed (at empty_line number true phase) item }
+    {
+        Fed {
+            splitter: Splitter {
+                stopped: true,
+                ..Splitter::begin(number, phase)
+            },
+            item,
+        }
+    }
+}
+
 impl Splitter {
     pub fn start() -> Splitter
         ensures { result ≡ started }
     {
+        Splitter::begin(1, Phase::First)
+    }
+
+    // A line begins.
+    fn begin(number: usize, phase: Phase) -> Splitter
+        ensures { result ≡ at empty_line number false phase }
+    {
         Splitter {
             line: Line::empty(),
-            number: 1,
+            number,
             stopped: false,
-            phase: Phase::First,
+            phase,
         }
     }
 
@@ -104,23 +125,12 @@ impl Splitter {
     pub fn feed_line(self, s: &[u8], at: usize) -> Advanced
         ensures { result ≡ after_part self s.now at }
     {
-        let line = self.line;
-        let filled = line.filled(s, at);
-        let longer = filled.line;
-        let next = filled.next;
-        let phase = self.phase;
-        let splitter = Splitter {
-            line: longer,
-            number: self.number,
-            stopped: self.stopped,
-            phase,
-        };
+        let Filled { line, next } = self.line.filled(s, at);
+        let splitter = Splitter { line, ..self };
         if next < s.len() {
-            let fed = splitter.ended();
-            let after = fed.splitter;
-            let item = fed.item;
+            let Fed { splitter, item } = splitter.ended();
             return Advanced {
-                splitter: after,
+                splitter,
                 item,
                 next: next + 1,
             };
@@ -136,40 +146,28 @@ impl Splitter {
     fn awaits(self) -> bool
         ensures { result ≡ awaited self }
     {
-        if self.stopped {
-            return false;
-        }
-        let phase = self.phase;
-        match phase {
-            Phase::First => true,
-            Phase::Count => true,
-            Phase::Names => true,
-            Phase::Further(_) => false,
-        }
+        !self.stopped && !matches!(self.phase, Phase::Further(_))
     }
 
     // Whether a line is left that the end of the record ends: "A missing last newline makes no difference. Empty input lacks its names line."
     fn pending(self) -> bool
         ensures { result ≡ pending self }
     {
-        let line = self.line;
-        if line.len == 0 {
-            return self.awaits();
-        }
-        true
+        let begun = self.line.len != 0;
+        begun || self.awaits()
     }
 
     // How many newlines the record lacks at its end: that of the last line, if one is left, and that of a line of the head which is missing behind it.
     pub fn lacking(self) -> usize
         ensures { result ≡ length (last_newlines self) }
     {
-        if self.pending() {
-            if self.leads_on() {
-                return 2;
-            }
-            return 1;
+        if !self.pending() {
+            0
+        } else if self.leads_on() {
+            2
+        } else {
+            1
         }
-        0
     }
 
     // Whether a line of the head comes behind this one: behind `states`, and behind a count. It is not asked by ending the line, which is done in one place, for speed.
@@ -179,13 +177,10 @@ impl Splitter {
         if self.stopped {
             return false;
         }
-        let line = self.line;
-        let phase = self.phase;
-        match phase {
-            Phase::First => line.is_states(),
-            Phase::Count => is_count(line.count()),
-            Phase::Names => false,
-            Phase::Further(_) => false,
+        match self.phase {
+            Phase::First => self.line.is_states(),
+            Phase::Count => self.line.count().is_some(),
+            Phase::Names | Phase::Further(_) => false,
         }
     }
 
@@ -199,13 +194,11 @@ impl Splitter {
                 item: Item::Nothing,
             };
         }
-        let line = self.line;
-        let phase = self.phase;
-        match phase {
-            Phase::First => first_line(line),
-            Phase::Count => count_line(line),
-            Phase::Names => names_line(line, 3),
-            Phase::Further(form) => further_line(line, self.number, form),
+        match self.phase {
+            Phase::First => first_line(self.line),
+            Phase::Count => count_line(self.line),
+            Phase::Names => names_line(self.line, 3),
+            Phase::Further(form) => further_line(self.line, self.number, form),
         }
     }
 }
@@ -215,17 +208,10 @@ fn first_line(line: Line) -> Fed
     ensures { result ≡ after_first line }
 {
     if line.is_states() {
-        return Fed {
-            splitter: Splitter {
-                line: Line::empty(),
-                number: 2,
-                stopped: false,
-                phase: Phase::Count,
-            },
-            item: Item::Nothing,
-        };
+        Fed::next(2, Phase::Count, Item::Nothing)
+    } else {
+        names_line(line, 1)
     }
-    names_line(line, 1)
 }
 
 // Line 2, behind `states`: "a line with the count".
@@ -233,33 +219,8 @@ fn count_line(line: Line) -> Fed
     ensures { result ≡ count_fed (line_count line) }
 {
     match line.count() {
-        Count::Of(states) => Fed {
-            splitter: Splitter {
-                line: Line::empty(),
-                number: 3,
-                stopped: false,
-                phase: Phase::Names,
-            },
-            item: Item::States(states),
-        },
-        Count::Malformed => Fed {
-            splitter: Splitter {
-                line: Line::empty(),
-                number: 3,
-                stopped: true,
-                phase: Phase::Names,
-            },
-            item: Item::BadCount,
-        },
-    }
-}
-
-fn is_count(count: Count) -> bool
-    ensures { result ≡ is_count count }
-{
-    match count {
-        Count::Of(_) => true,
-        Count::Malformed => false,
+        Some(states) => Fed::next(3, Phase::Names, Item::States(states)),
+        None => Fed::stop(3, Phase::Names, Item::BadCount),
     }
 }
 
@@ -269,19 +230,11 @@ fn names_line(line: Line, number: usize) -> Fed
     ensures { result ≡ after_names number line }
 {
     if line.is_names(Form::Plain) {
-        return names_fed(number, Form::Plain);
-    }
-    if line.is_names(Form::Keyed) {
-        return names_fed(number, Form::Keyed);
-    }
-    Fed {
-        splitter: Splitter {
-            line: Line::empty(),
-            number: number + 1,
-            stopped: true,
-            phase: Phase::Names,
-        },
-        item: Item::BadNames(number),
+        names_fed(number, Form::Plain)
+    } else if line.is_names(Form::Keyed) {
+        names_fed(number, Form::Keyed)
+    } else {
+        Fed::stop(number + 1, Phase::Names, Item::BadNames(number))
     }
 }
 
@@ -290,29 +243,44 @@ fn names_fed(number: usize, form: Form) -> Fed
     requires { number ≤ 3 }
     ensures { result ≡ names_fed number form }
 {
-    Fed {
-        splitter: Splitter {
-            line: Line::empty(),
-            number: number + 1,
-            stopped: false,
-            phase: Phase::Further(form),
-        },
-        item: Item::Nothing,
+    Fed::next(number + 1, Phase::Further(form), Item::Nothing)
+}
+
+fn further_line(line: Line, number: usize, form: Form) -> Fed
+    ensures { result ≡ after_further form line number }
+{
+    let phase = Phase::Further(form);
+    if MAX_LINES < number {
+        return Fed::stop(number, phase, Item::TooMany);
+    }
+    Fed::next(number + 1, phase, item_of(line.parse(form), number))
+}
+
+fn item_of(parsed: Option<Update>, number: usize) -> Item
+    ensures { result ≡ item_of parsed number }
+{
+    match parsed {
+        Some(update) => Item::Update(Numbered {
+            line: number,
+            update,
+        }),
+        None => Item::Malformed(number),
     }
 }
 
-// What the head of a record says of its states, from the record's bytes alone: a count, BAD_COUNT, or nothing.
+// What the head of a record says of its states, from the record's bytes alone: a count, a 17, or nothing.
 pub fn states_of(bytes: &[u8]) -> Item
     ensures { result ≡ count_in (items bytes.now) }
 {
     let end = line_end(bytes);
-    if equal(&bytes[..end], b"states") {
-        if end < bytes.len() {
-            return count_item(&bytes[end + 1..]);
-        }
-        return Item::BadCount;
+    if &bytes[..end] != b"states".as_slice() {
+        return Item::Nothing;
     }
-    Item::Nothing
+    if end < bytes.len() {
+        count_item(&bytes[end + 1..])
+    } else {
+        Item::BadCount
+    }
 }
 
 // By the line at the front of the bytes behind `states`.
@@ -321,8 +289,8 @@ fn count_item(rest: &[u8]) -> Item
 {
     let end = line_end(rest);
     match count_bytes(&rest[..end]) {
-        Count::Of(states) => Item::States(states),
-        Count::Malformed => Item::BadCount,
+        Some(states) => Item::States(states),
+        None => Item::BadCount,
     }
 }
 
@@ -330,49 +298,5 @@ fn count_item(rest: &[u8]) -> Item
 fn line_end(s: &[u8]) -> usize
     ensures { result ≡ length (before s.now) }
 {
-    let mut i = 0;
-    while i < s.len() {
-        if s[i] == b'\n' {
-            return i;
-        }
-        i += 1;
-    }
-    i
-}
-
-fn further_line(line: Line, number: usize, form: Form) -> Fed
-    ensures { result ≡ after_further form line number }
-{
-    if MAX_LINES < number {
-        return Fed {
-            splitter: Splitter {
-                line: Line::empty(),
-                number: number,
-                stopped: true,
-                phase: Phase::Further(form),
-            },
-            item: Item::TooMany,
-        };
-    }
-    Fed {
-        splitter: Splitter {
-            line: Line::empty(),
-            number: number + 1,
-            stopped: false,
-            phase: Phase::Further(form),
-        },
-        item: item_of(line.parse(form), number),
-    }
-}
-
-fn item_of(parsed: Parsed, number: usize) -> Item
-    ensures { result ≡ item_of parsed number }
-{
-    match parsed {
-        Parsed::Update(update) => Item::Update(Numbered {
-            line: number,
-            update,
-        }),
-        Parsed::Malformed => Item::Malformed(number),
-    }
+    s.iter().position(|b| *b == b'\n').unwrap_or(s.len())
 }

@@ -1,7 +1,6 @@
 -- The laws of the listing.
 pub mod Placing
 pub mod Saying
-pub mod Beginning
 pub mod Lining
 pub mod Tasks
 pub mod Session

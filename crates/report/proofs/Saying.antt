@@ -3,7 +3,7 @@
 use mathlib.Core.Path.{◌≡◌, refl, sym, ◌∙◌, ap}
 use mathlib.Core.Bool.{Bool, true, false, not, false≢true}
 use mathlib.Core.List.{List, [], ◌∷◌, ◌++◌, append_assoc, append-nil, Memᴰ}
-use mathlib.Core.Option.{some}
+use mathlib.Core.Option.{Option, some}
 use Prim.Native.Nat.{ℕ, ◌≤◌, ◌<◌}
 use native.Mathlib.Omega.{arith}
 use lib.Dec.{eqb}
@@ -14,9 +14,10 @@ use Rattle.gid.specs.Statuses.{status}
 use Rattle.gid.specs.Refusals.{max_states}
 use Rattle.gid.specs.Outcomes.{Outcome, refused, accepted}
 use Rattle.tables.specs.declared.Graph.{Graph}
+use Rattle.std.specs.Prelude.{None, Some, Ok, Err}
 use Rattle.tables.specs.Tables.{Tables}
-use Rattle.engine.specs.declared.Answer.{Answer}
-use Rattle.engine.specs.declared.Answer.TheVariants.{Accepted as Yes, Refused as No}
+use Rattle.tables.specs.Numbers.{number_of}
+use Rattle.engine.specs.Answers.{Answer, answer_outcome}
 use Rattle.engine.specs.Promise.{Promise}
 use Rattle.engine.proofs.Running.{was_accepted}
 use Rattle.record.specs.declared.splitter.Item.{Item}
@@ -24,21 +25,19 @@ use Rattle.record.specs.declared.splitter.Item.TheVariants.{BadNames, TooMany, B
 use Rattle.record.specs.Items.{item_number, item_line}
 use Rattle.record.proofs.Splitting.{Lacks, no_count', no_names'}
 use Rattle.record.proofs.Heading.{NoCount, NoCounts, Headed}
-use Rattle.reader.specs.declared.driver.LineAnswer.{LineAnswer}
-use Rattle.reader.specs.declared.driver.LineAnswer.TheVariants.{Nothing, Accepted, Refused}
 use Rattle.reader.specs.declared.driver.Until.TheVariants.{News}
 use Rattle.reader.specs.Opening.{reader_states}
-use Rattle.reader.specs.Turning.{Told, line_outcome, line_answer, number_answer, Came, sent, nothing, malformed, bad_names, too_many, states, bad_count}
+use Rattle.reader.specs.Turning.{Told, Answered, Came, sent, nothing, malformed, bad_names, too_many, states, bad_count}
 use Rattle.reader.specs.Replaying.{with_count, start_of, outcome_of, after_item, after_items}
 use Rattle.reader.specs.Standing.{Standing}
-use Rattle.reader.specs.Advancing.{Passed, items_of, Applies, none as no_line, next, waited, Quiet, Stops, found, ended}
+use Rattle.reader.specs.Advancing.{Passed, items_of, Applies, none as no_line, next, has_news, waited, Quiet, Stops, found, ended}
 use Rattle.reader.proofs.Lines.{line_right, head_right}
 use Rattle.reader.proofs.Ending.{Silent, count_answer}
 use Rattle.totals.specs.Counting.{totals_below}
 use Rattle.totals.proofs.Counting.{totals_same}
 use Rattle.report.specs.Texts.{refused_word, refused_text, news_text, totals_text}
 use Rattle.report.specs.Listing.{outcome_text, line_text, lines_text}
-use Rattle.report.specs.Printing.{line_room, answer_text, passed_text, table_totals}
+use Rattle.report.specs.Printing.{line_room, told_text, answer_text, passed_text, table_totals}
 use Rattle.tables.specs.Numbers.{least}
 use Rattle.report.proofs.Placing.{row_room}
 
@@ -49,38 +48,37 @@ news_same line f g [] e = refl
 news_same line f g (s ∷ l) e = rw (e s (Memᴰ.head refl), news_same line f g l (λ x m. e x (Memᴰ.tail m))) refl
 
 -- what is told of a line, by its text
-told_text : (f : ℕ → ℕ) (line : ℕ) (x : Outcome (List ℕ)) (o : LineAnswer) (news status : List ℕ) → line_outcome o news ≡ some (record { line = line; outcome = x }) → ((s k : ℕ) → Memᴰ s (take k news) → (m : ℕ) → o ≡ Accepted m k → get_or status s 0 ≡ f s) → answer_text o news status ≡ outcome_text line f x
-told_text f line x Nothing news status e q = absurd (let z : ◌≡◌ {A = ℕ} 0 1 = cc in omega arith)
-told_text f line x (Accepted m k) news status e q =
+told_same : (f : ℕ → ℕ) (line : ℕ) (x : Outcome (List ℕ)) (m : ℕ) (a : Answer) (news entries : List ℕ) → ◌≡◌ {A = Option Told} (some (record { line = m; outcome = answer_outcome a news })) (some (record { line = line; outcome = x })) → ((s k : ℕ) → a ≡ Ok k → Memᴰ s (take k news) → get_or entries s 0 ≡ f s) → told_text m a news entries ≡ outcome_text line f x
+told_same f line x m (Ok k) news entries e q =
     let w : ◌≡◌ {A = Told} (record { line = m; outcome = accepted (take k news) }) (record { line = line; outcome = x }) = cc in
     let y : line ≡ m = sym (ap (λ (z : Told). z.line) w) in
     let z : x ≡ accepted (take k news) = sym (ap (λ (z : Told). z.outcome) w) in
-    rw (y, z) (news_same m (λ s. get_or status s 0) f (take k news) (λ s i. q s k i m refl))
-told_text f line x (Refused m k) news status e q =
-    let w : ◌≡◌ {A = Told} (record { line = m; outcome = refused k }) (record { line = line; outcome = x }) = cc in
+    rw (y, z) (news_same m (λ s. get_or entries s 0) f (take k news) (λ s i. q s k refl i))
+told_same f line x m (Err r) news entries e q =
+    let w : ◌≡◌ {A = Told} (record { line = m; outcome = refused (number_of r) }) (record { line = line; outcome = x }) = cc in
     let y : line ≡ m = sym (ap (λ (z : Told). z.line) w) in
-    let z : x ≡ refused k = sym (ap (λ (z : Told). z.outcome) w) in
+    let z : x ≡ refused (number_of r) = sym (ap (λ (z : Told). z.outcome) w) in
     rw (y, z)
 
 -- One line.
-pub line_says : {start : Graph} {h : History} {a : Item} {g g' : Graph} {t t' : Tables} {o : LineAnswer} → Standing start h g t → NoCount a → Came a g t g' t' o → answer_text o t'.news t'.status ≡ line_text start h a
+pub line_says : {start : Graph} {h : History} {a : Item} {g g' : Graph} {t t' : Tables} {o : Answered} → Standing start h g t → NoCount a → Came a g t g' t' o → answer_text o t'.news t'.status ≡ line_text start h a
 unfolding line_text news_text
 line_says s n nothing = refl
-line_says {start} {h} {g = g} {g' = g'} {t = t} {t' = t'} {o = o} s n (sent {r = r} {a = a} p e q) =
+line_says {start} {h} {g = g} {g' = g'} {t = t} {t' = t'} s n (sent {r = r} {a = a} p e q) =
+    let x = Rattle.record.specs.declared.splitter.Item.TheVariants.Update r in
     let w = line_right s tt (sent {r = r} p e q) in
-    told_text (status (after_item start h (Rattle.record.specs.declared.splitter.Item.TheVariants.Update r))) r.line (outcome_of start h (Rattle.record.specs.declared.splitter.Item.TheVariants.Update r)) o t'.news t'.status w.0
-    (λ x k i m z. w.1.fits.status x (rw w.1.states (rw s.states at (by a p (sym e ∙ z) i))))
+    rw e (told_same (status (after_item start h x)) r.line (outcome_of start h x) r.line a t'.news t'.status (rw e at w.0) (λ y k z i. w.1.fits.status y (rw w.1.states (rw s.states at (by a p z i)))))
   where
-    by : {x k m : ℕ} (b : Answer) → Promise g r.update t g' b t' → line_answer r.line b ≡ Accepted m k → Memᴰ x (take k t'.news) → x < g.n
-    by {x} {k} (Yes j) q z i = let y : j ≡ k = cc in (was_accepted q).1.named.in_range x (rw y i)
-    by (No j) q z i = absurd (let y : ◌≡◌ {A = ℕ} 0 1 = cc in omega arith)
+    by : {y k : ℕ} (b : Answer) → Promise g r.update t g' b t' → b ≡ Ok k → Memᴰ y (take k t'.news) → y < g.n
+    by {y} {k} (Ok j) q z i = let v : j ≡ k = cc in (was_accepted q).1.named.in_range y (rw v i)
+    by (Err w) q z i = absurd (let v : ◌≡◌ {A = ℕ} 0 1 = cc in omega arith)
 line_says s n malformed = refl
 line_says s n bad_names = refl
 line_says s n too_many = refl
 line_says s n states = absurd n
 line_says s n bad_count = refl
 
-head_says : {start : Graph} {a : Item} {g g' : Graph} {t t' : Tables} {o : LineAnswer} → Standing start [] g t → Came a g t g' t' o → answer_text o t'.news t'.status ≡ line_text (with_count a start) [] a
+head_says : {start : Graph} {a : Item} {g g' : Graph} {t t' : Tables} {o : Answered} → Standing start [] g t → Came a g t g' t' o → answer_text o t'.news t'.status ≡ line_text (with_count a start) [] a
 unfolding line_text news_text
 head_says s nothing = refl
 head_says s (sent p e q) = line_says s tt (sent p e q)
@@ -125,14 +123,17 @@ unfolding passed_text news_text
 quiet_text [] q = refl
 quiet_text (p ∷ l) q = rw (by p.answer q.0, quiet_text l q.1)
   where
-    by : (o : LineAnswer) → waited News o ≡ false → answer_text o p.after.news p.after.status ≡ []
-    by Nothing e = refl
-    by (Accepted line k) e = none_of (eqb k 0) refl e
-      where
-        none_of : (b : Bool) → eqb k 0 ≡ b → not b ≡ false → news_text line (λ s. get_or p.after.status s 0) (take k p.after.news) ≡ []
-        none_of true z y = rw (eqb-true k 0 z)
-        none_of false z y = absurd (false≢true (sym y))
-    by (Refused line k) e = absurd (false≢true (sym e))
+    none_of : (line k : ℕ) (b : Bool) → eqb k 0 ≡ b → not b ≡ false → news_text line (λ s. get_or p.after.status s 0) (take k p.after.news) ≡ []
+    none_of line k true z y = rw (eqb-true k 0 z)
+    none_of line k false z y = absurd (false≢true (sym y))
+
+    told : (line : ℕ) (a : Answer) → has_news a ≡ false → told_text line a p.after.news p.after.status ≡ []
+    told line (Ok k) e = none_of line k (eqb k 0) refl e
+    told line (Err r) e = absurd (false≢true (sym e))
+
+    by : (o : Answered) → waited News o ≡ false → answer_text o p.after.news p.after.status ≡ []
+    by None e = refl
+    by (Some a) e = told a.line a.outcome e
 
 -- the tables after the last line
 applies_last : {g g' : Graph} {t t' : Tables} (l : List Passed) (p : Passed) → Applies g t (l ++ (p ∷ [])) g' t' → p.after ≡ t'
@@ -140,7 +141,7 @@ applies_last [] p (next c no_line) = refl
 applies_last (q ∷ l) p (next c a) = applies_last l p a
 
 -- What a reader that waits for news passes prints what came of the line that it found.
-pub stops_text : {g g' : Graph} {t t' : Tables} {l : List Passed} {left : List ℕ} {o : LineAnswer} → Applies g t l g' t' → Stops News l left o → passed_text l ≡ answer_text o t'.news t'.status
+pub stops_text : {g g' : Graph} {t t' : Tables} {l : List Passed} {left : List ℕ} {o : Answered} → Applies g t l g' t' → Stops News l left o → passed_text l ≡ answer_text o t'.news t'.status
 unfolding passed_text
 stops_text {g} {g'} {t} {t'} {l = l} a (found before p e q w z) =
     let y : p.after ≡ t' = applies_last before p (rw e at a) in
@@ -157,25 +158,25 @@ silent_text (p ∷ l) q = rw (q.0, silent_text l q.1)
 refusal_room : (line k : ℕ) → line < 100000 → k < 100000 → length (refused_text line k) ≤ line_room
 refusal_room line k p q = omega (arith, row_room line refused_word k p q)
 
-refused_as : {a : Item} {k : ℕ} {g g' : Graph} {t t' : Tables} {o : LineAnswer} → Came a g t g' t' o → item_number a ≡ some k → o ≡ Refused (item_line a) k
-refused_as nothing e = absurd (let z : ◌≡◌ {A = ℕ} 0 1 = cc in omega arith)
-refused_as (sent p q w) e = absurd (let z : ◌≡◌ {A = ℕ} 0 1 = cc in omega arith)
-refused_as (malformed {n = n}) e = ap (number_answer n) e
-refused_as (bad_names {n = n}) e = ap (number_answer n) e
-refused_as too_many e = ap (number_answer (item_line TooMany)) e
-refused_as states e = absurd (let z : ◌≡◌ {A = ℕ} 0 1 = cc in omega arith)
-refused_as bad_count e = ap (number_answer 2) e
+refused_says : {a : Item} {k : ℕ} {g g' : Graph} {t t' : Tables} {o : Answered} → Came a g t g' t' o → item_number a ≡ some k → (news entries : List ℕ) → answer_text o news entries ≡ refused_text (item_line a) k
+refused_says nothing e news entries = absurd (let z : ◌≡◌ {A = ℕ} 0 1 = cc in omega arith)
+refused_says (sent p q w) e news entries = absurd (let z : ◌≡◌ {A = ℕ} 0 1 = cc in omega arith)
+refused_says {k = k} (malformed {n = n}) e news entries = ap (refused_text n) (let z : 11 ≡ k = cc in z)
+refused_says {k = k} (bad_names {n = n}) e news entries = ap (refused_text n) (let z : 10 ≡ k = cc in z)
+refused_says {k = k} too_many e news entries = ap (refused_text (item_line TooMany)) (let z : 12 ≡ k = cc in z)
+refused_says states e news entries = absurd (let z : ◌≡◌ {A = ℕ} 0 1 = cc in omega arith)
+refused_says {k = k} bad_count e news entries = ap (refused_text 2) (let z : 17 ≡ k = cc in z)
 
 pub lacks_room : {m : List Item} {g g' : Graph} {t t' : Tables} {l : List Passed} → Lacks m → m ≡ items_of l → Applies g t l g' t' → length (passed_text l) ≤ line_room
 unfolding passed_text
 lacks_room no_count' e no_line = omega arith
 lacks_room no_count' e (next {p = p} c no_line) =
     let i : p.item ≡ BadCount = let z = e in cc in
-    rw (refused_as c (ap item_number i), append-nil (refused_text (item_line p.item) 17)) (refusal_room (item_line p.item) 17 (omega (arith, ap item_line i)) (omega arith))
+    rw (refused_says c (ap item_number i) p.after.news p.after.status, append-nil (refused_text (item_line p.item) 17)) (refusal_room (item_line p.item) 17 (omega (arith, ap item_line i)) (omega arith))
 lacks_room no_count' e (next c (next d a)) = absurd (let z = ap length e in omega arith)
 lacks_room (no_names' k) e no_line = omega arith
 lacks_room (no_names' k) e (next c no_line) = absurd (let z = ap length e in omega arith)
 lacks_room (no_names' k) e (next {p = p} c (next {p = q} d no_line)) =
     let i : q.item ≡ BadNames 3 = let z = e in cc in
-    rw (count_answer {c = k} c (let z = e in cc), refused_as d (ap item_number i), append-nil (refused_text (item_line q.item) 10)) (refusal_room (item_line q.item) 10 (omega (arith, ap item_line i)) (omega arith))
+    rw (count_answer {c = k} c (let z = e in cc), refused_says d (ap item_number i) q.after.news q.after.status, append-nil (refused_text (item_line q.item) 10)) (refusal_room (item_line q.item) 10 (omega (arith, ap item_line i)) (omega arith))
 lacks_room (no_names' k) e (next c (next d (next f a))) = absurd (let z = ap length e in omega arith)

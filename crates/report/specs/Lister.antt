@@ -1,6 +1,6 @@
 -- What each call of a listing does, on tables with any contents.
 -- Assumes nothing.
-use Rattle.std.specs.Prelude.{◌≡◌, Bool, true, false, ◌&&◌, List, [], ◌++◌, ℕ, ◌+◌, ◌≤◌, ◌<◌, leb, length, drop}
+use Rattle.std.specs.Prelude.{◌≡◌, ◌⊎◌, Bool, true, false, ◌&&◌, List, [], ◌++◌, ℕ, ◌+◌, ◌≤◌, ◌<◌, leb, length, drop}
 use Rattle.std.proofs.Math.Option.{Option, some, none}
 use Rattle.tables.specs.Tables.{Tables}
 use Rattle.tables.specs.Numbers.{least}
@@ -10,7 +10,6 @@ use Rattle.reader.specs.declared.Reader.{Reader}
 use Rattle.reader.specs.Opening.{reader_states, open_refusal, freshened}
 use Rattle.reader.specs.Reading.{record_limit, record_graph}
 use Rattle.reader.specs.Advancing.{Follows}
-use Rattle.report.specs.declared.lines.LinesEnd.{LinesEnd}
 use Rattle.report.specs.declared.lister.Lister.{Lister}
 use Rattle.reader.specs.declared.task.Task.{Task}
 use Rattle.reader.specs.declared.task.Task.TheVariants.{Read, Write, End}
@@ -66,17 +65,16 @@ start_by Read next len = 0
 start_by Write next len = least next len
 start_by End next len = least next len
 
--- The totals behind the lines, where there is room for them.
-pub data PutsTotals (d : LinesEnd) (status output : List ℕ) (l : Lister) (output' : List ℕ) : Type 0 where
-  short : length output < d.end + totals_room → l ≡ record { reader = d.reader; next = d.next; end = d.end; task = Write } → output' ≡ output → PutsTotals d status output l output'
-  totals : {r : ℕ} → l ≡ record { reader = d.reader; next = d.next; end = r; task = End } → r ≤ length output → WroteAt d.end (totals_by d.reader status) output output' r → PutsTotals d status output l output'
+-- The lister when the caller has done its task, with a piece of `len` bytes.
+abbrev pub resumed : Lister → ℕ → Lister
+resumed l len = record { reader = l.reader; next = start_by l.task l.next len; end = place_by l.task l.end; task = l.task }
 
--- What is to be done after lines of a part of `len` bytes, of a piece of `given` bytes.
-pub data AfterLines (d : LinesEnd) (len given : ℕ) (status output : List ℕ) (l : Lister) (output' : List ℕ) : Type 0 where
-  waits : d.next < len → l ≡ record { reader = d.reader; next = d.next; end = d.end; task = Write } → output' ≡ output → AfterLines d len given status output l output'
-  continues : len ≤ d.next → 0 < given → d.reader.splitter.stopped ≡ false → l ≡ record { reader = d.reader; next = d.next; end = d.end; task = Read } → output' ≡ output → AfterLines d len given status output l output'
-  stops : len ≤ d.next → 0 < given → d.reader.splitter.stopped ≡ true → PutsTotals d status output l output' → AfterLines d len given status output l output'
-  ends : len ≤ d.next → given ≡ 0 → PutsTotals d status output l output' → AfterLines d len given status output l output'
+-- What is done behind the lines of a part of `len` bytes, of a piece: there is more of the part, or more of the input, or the totals are written, where there is room for them.
+pub data AfterLines (d : Lister) (len : ℕ) (piece status output : List ℕ) (l : Lister) (output' : List ℕ) : Type 0 where
+  waits : d.next < len → l ≡ record { reader = d.reader; next = d.next; end = d.end; task = Write } → output' ≡ output → AfterLines d len piece status output l output'
+  continues : len ≤ d.next → 0 < length piece → d.reader.splitter.stopped ≡ false → l ≡ record { reader = d.reader; next = d.next; end = d.end; task = Read } → output' ≡ output → AfterLines d len piece status output l output'
+  short : len ≤ d.next → (piece ≡ []) ⊎ (d.reader.splitter.stopped ≡ true) → length output < d.end + totals_room → l ≡ record { reader = d.reader; next = d.next; end = d.end; task = Write } → output' ≡ output → AfterLines d len piece status output l output'
+  totals : {r : ℕ} → len ≤ d.next → (piece ≡ []) ⊎ (d.reader.splitter.stopped ≡ true) → l ≡ record { reader = d.reader; next = d.next; end = r; task = End } → r ≤ length output → WroteAt d.end (totals_by d.reader status) output output' r → AfterLines d len piece status output l output'
 
 module _ (l : Lister) (piece output : List ℕ) (t : Tables) where
   -- The place of the next text, and what of the piece is to be read.

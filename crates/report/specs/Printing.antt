@@ -1,12 +1,13 @@
 -- What the lines of a part print, on tables with any contents.
 -- Assumes nothing.
-use Rattle.std.specs.Prelude.{List, [], ◌∷◌, ◌++◌, ℕ, ◌+◌, ◌*◌, ◌≤◌, ◌<◌, length, get_or, take, drop}
+use Rattle.std.specs.Prelude.{List, [], ◌∷◌, ◌++◌, ℕ, ◌+◌, ◌*◌, ◌≤◌, ◌<◌, length, get_or, take, drop, None, Some, Ok, Err}
 use Rattle.tables.specs.declared.Graph.{Graph}
 use Rattle.tables.specs.Tables.{Tables}
+use Rattle.tables.specs.Numbers.{number_of}
 use Rattle.record.specs.Text.{WroteAt}
 use Rattle.record.specs.declared.splitter.Splitter.{Splitter}
-use Rattle.reader.specs.declared.driver.LineAnswer.{LineAnswer}
-use Rattle.reader.specs.declared.driver.LineAnswer.TheVariants.{Nothing, Accepted, Refused}
+use Rattle.engine.specs.Answers.{Answer}
+use Rattle.reader.specs.Turning.{Answered}
 use Rattle.reader.specs.Advancing.{Passed, Follows}
 use Rattle.totals.specs.Counting.{totals_below}
 use Rattle.report.specs.Texts.{refused_text, news_text, totals_text}
@@ -15,11 +16,14 @@ use Rattle.report.specs.Texts.{refused_text, news_text, totals_text}
 abbrev pub line_room : ℕ
 line_room = 34816
 
--- The text of what came of a line, by the tables after it.
-abbrev pub answer_text : LineAnswer → (news status : List ℕ) → List ℕ
-answer_text Nothing news status = []
-answer_text (Accepted line k) news status = news_text line (λ s. get_or status s 0) (take k news)
-answer_text (Refused line k) news status = refused_text line k
+-- The text of what came of a line, by the tables after it: none where no line has ended.
+abbrev pub told_text : ℕ → Answer → (news status : List ℕ) → List ℕ
+told_text line (Ok k) news status = news_text line (λ s. get_or status s 0) (take k news)
+told_text line (Err r) news status = refused_text line (number_of r)
+
+abbrev pub answer_text : Answered → (news status : List ℕ) → List ℕ
+answer_text None news status = []
+answer_text (Some a) news status = told_text a.line a.outcome news status
 
 -- Of lines that were passed, one behind another.
 unfoldable pub passed_text : List Passed → List ℕ

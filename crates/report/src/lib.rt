@@ -5,4 +5,4 @@ mod lines;
 mod lister;
 mod text;
 
-pub use lister::{Lister, begin, list};
+pub use lister::Lister;

@@ -1,94 +1,50 @@
-// The lines of a part of a record: each is read and applied, and its text written at a place of a lent buffer.
-ghost use Rattle.std.specs.Prelude.{◌≤◌, ◌<◌, ◌+◌, length};
-ghost use Rattle.tables.specs.Tables.{tables_of};
-ghost use Rattle.record.specs.Text.{WroteAt};
-ghost use Rattle.reader.specs.Advancing.{Bounded};
-ghost use Rattle.report.specs.Printing.{line_room, answer_text, Lines};
+// The lines of a part of a record: each is read and applied, and its text put behind what stands in the buffer.
+ghost use Rattle.std.specs.Prelude.{◌≤◌, ◌+◌, length};
+ghost use Rattle.tables.specs.Lending.{contents, StillLent};
+ghost use Rattle.record.specs.Putting.{Puts};
+ghost use Rattle.reader.specs.Advancing.{BoundedBy};
+ghost use Rattle.report.specs.Printing.{line_room, told_text, Lines};
 
+use crate::lister::Lister;
 use crate::text::{put_news, put_refusal};
-use reader::{LineAnswer, Reader, Until};
+use reader::{LineAnswer, Until};
+use record::TextBuffer;
+use tables::LentTables;
 
 // The room that is to be left in the buffer for a line.
 pub const LINE_ROOM: usize = 34816;
 
-// The reader after some bytes of a part, the index after them, and the place after what was written.
-#[derive(Clone, Copy)]
-pub struct LinesEnd {
-    pub reader: Reader,
-    pub next: usize,
-    pub end: usize,
-}
-
-// Lists the lines of a part from an index on, up to its end or until the buffer has no room for a line.
-pub fn list_lines(
-    reader: Reader,
-    part: &[u8],
-    index: usize,
-    buf: &mut [u8],
-    at: usize,
-    status: &mut [u8],
-    marks: &mut [u8],
-    from: &mut [u16],
-    to: &mut [u16],
-    key: &mut [u8],
-    successor: &mut [u16],
-    news: &mut [u16],
-    in_head: &mut [u16],
-    out_head: &mut [u16],
-    queue: &mut [u16],
-    visited: &mut [u16],
-    in_next: &mut [u16],
-    out_next: &mut [u16],
-) -> LinesEnd
-    requires { (index ≤ length part.now) × (at ≤ length buf.old) }
-    ensures { Lines reader.splitter part.now index reader.engine.graph (tables_of status.old marks.old from.old to.old key.old successor.old news.old in_head.old out_head.old queue.old visited.old in_next.old out_next.old) result.reader.splitter result.next result.reader.engine.graph (tables_of status.new marks.new from.new to.new key.new successor.new news.new in_head.new out_head.new queue.new visited.new in_next.new out_next.new) at buf.old buf.new result.end }
-{
-    let mut current = reader;
-    let mut next = index;
-    let mut end = at;
-    while next < part.len() {
-        if buf.len() - end < LINE_ROOM {
-            break;
+impl Lister {
+    // Lists the lines of a part from where it stands on, up to its end or until the buffer has no room for a line. How far each turn moves on is the reader's answer.
+    pub(crate) fn list_lines(&mut self, part: &[u8], buf: &mut [u8], tables: &mut LentTables)
+        requires index { self.old.next ≤ length part.now }
+        requires at { self.old.end ≤ length buf.old }
+        ensures still_lent { StillLent tables.old tables.new }
+        ensures lines { Lines self.old.reader.splitter part.now self.old.next self.old.reader.engine.graph (contents tables.old) self.new.reader.splitter self.new.next self.new.reader.engine.graph (contents tables.new) self.old.end buf.old buf.new self.new.end }
+    {
+        let mut text = TextBuffer { buf, end: self.end };
+        while self.next < part.len() && LINE_ROOM <= text.buf.len() - text.end {
+            let at = self.next;
+            let turn = self.reader.advance(part, at, Until::News, tables);
+            self.next = turn.next;
+            if let Some(answer) = turn.answer {
+                put_answer(&mut text, answer, tables);
+            }
         }
-        let turn = current.advance(
-            part,
-            next,
-            Until::News,
-            status,
-            marks,
-            from,
-            to,
-            key,
-            successor,
-            news,
-            in_head,
-            out_head,
-            queue,
-            visited,
-            in_next,
-            out_next,
-        );
-        let after = turn.reader;
-        let answer = turn.answer;
-        current = after;
-        next = turn.next;
-        end = put_answer(buf, end, answer, news, status);
-    }
-    LinesEnd {
-        reader: current,
-        next,
-        end,
+        self.end = text.end;
     }
 }
 
 // The text of what came of a line, by the tables after it.
-fn put_answer(buf: &mut [u8], at: usize, answer: LineAnswer, news: &[u16], status: &[u8]) -> usize
-    requires { Bounded answer news.now × (at + line_room ≤ length buf.old) }
-    ensures { WroteAt at (answer_text answer news.now status.now) buf.old buf.new result × (result ≤ at + line_room) }
+fn put_answer(text: &mut TextBuffer, answer: LineAnswer, tables: &LentTables)
+    requires bounded { BoundedBy answer.line answer.outcome tables.now.news.now }
+    requires room { text.old.end + line_room ≤ length text.old.buf.now }
+    ensures puts { Puts (told_text answer.line answer.outcome tables.now.news.now tables.now.status.now) text.old text.new }
+    ensures within { text.new.end ≤ text.old.end + line_room }
 {
-    match answer {
-        LineAnswer::Nothing => at,
-        LineAnswer::Accepted { line, count } => put_news(buf, at, line, &news[..count], status),
-        LineAnswer::Refused { line, number } => put_refusal(buf, at, line, number),
+    let line = answer.line;
+    match answer.outcome {
+        Ok(count) => put_news(text, line, &tables.news[..count], tables.status),
+        Err(refusal) => put_refusal(text, line, u8::from(refusal)),
     }
 }

@@ -16,9 +16,8 @@ use Rattle.gid.specs.Successors.{Chain, ends, follows, Having}
 use Rattle.gid.specs.Systems.{Arcs, System, DeadIn, here}
 use Rattle.gid.proofs.Systems.{dead_greatest, dead_final, dead_target}
 use Rattle.tables.specs.Visits.{marked}
-use Rattle.search.specs.declared.spread.Mode.TheVariants.{Tree}
 use Rattle.search.specs.declared.spread.Span.{Span}
-use Rattle.search.specs.Spreading.{allowed, Reached, start, back, unless, Before, Queued}
+use Rattle.search.specs.Spreading.{Tree, allowed, Reached, start, back, unless, Before, Queued}
 use Rattle.search.specs.Releasing.{hopeful}
 use Rattle.search.specs.Escaping.{Near}
 use Rattle.search.specs.Searches.{SearchTables, Sweeps}

@@ -12,9 +12,8 @@ use Rattle.gid.specs.Statuses.{status_live}
 use Rattle.gid.specs.Systems.{Arcs, System, LiveIn, by_arc}
 use Rattle.gid.proofs.Systems.{live_least}
 use Rattle.tables.specs.Visits.{marked}
-use Rattle.search.specs.declared.spread.Mode.TheVariants.{Live}
 use Rattle.search.specs.declared.spread.Span.{Span}
-use Rattle.search.specs.Spreading.{allowed, Reached, start, back, unless, Before, Spread}
+use Rattle.search.specs.Spreading.{Live, allowed, Reached, start, back, unless, Before, Spread}
 
 -- What a spread of life starts from: the arcs of a system over n nodes, each with one target, the statuses as they were, and the starts.
 pub record Quickens (S : System) (n : ℕ) (Into : Arcs) (status visited queue : List ℕ) (starts : Span) : Type 0 where

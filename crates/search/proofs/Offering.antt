@@ -4,7 +4,7 @@ use mathlib.Core.Path.{◌≡◌, refl, sym, ◌∙◌}
 use mathlib.Core.Logic.{◌⊎◌, inl, inr, ⊎_elim}
 use mathlib.Core.Bool.{Bool, true, false, not, ◌&&◌, false≢true}
 use mathlib.Core.List.{List}
-use Prim.Native.Nat.{ℕ, ◌+◌, ◌-◌, ◌≤◌, ◌<◌}
+use Prim.Native.Nat.{ℕ, ◌+◌, ◌≤◌, ◌<◌}
 use native.Mathlib.Omega.{arith}
 use native.Mathlib.Decide.{ℕ_discrete}
 use lib.ListN.{length, get_or, length-set}
@@ -14,7 +14,8 @@ use Rattle.tables.specs.Tables.{visited_length}
 use Rattle.tables.specs.Visits.{marked}
 use Rattle.tables.proofs.Keeping.{kept_trans, kept_set}
 use Rattle.tables.proofs.Marking.{has-mark, marked_mark, marked_mark_other, mark_grows, kept_mark}
-use Rattle.adjacency.specs.Walks.{first_at, next_at}
+use Rattle.std.specs.Prelude.{Some, None}
+use Rattle.adjacency.specs.Walks.{Standing, Turn, Starts}
 use Rattle.search.specs.declared.spread.Span.{Span}
 use Rattle.search.specs.Spreading.{Chains, into, Reached, back, unless, Before, unvisited, Queued}
 use Rattle.search.specs.Offering.{Admitted, Offered, passed, taken, Spreading, Offers, SourceVisited, SourcesVisited}
@@ -141,29 +142,29 @@ module _ {n : ℕ} {Arc : Arcs} {ok : ℕ → ℕ → Bool} {x : ℕ} {v q : Lis
       in_q' : n ≤ length q'
       in_q' = let e = o.queues in omega arith
 
--- A walk over the steps into x that stands at p: the source of each step passed has been offered.
-pub record OfferWalk (c : Chains) (ok : ℕ → ℕ → Bool) (x : ℕ) (v q : List ℕ) (s : Span) (v' q' : List ℕ) (s' : Span) (p : ℕ) : Type 0 where
+-- A walk over the steps into x: the source of each step passed has been offered.
+pub record OfferWalk (c : Chains) (ok : ℕ → ℕ → Bool) (x : ℕ) (v q : List ℕ) (s : Span) (v' q' : List ℕ) (s' : Span) (w : Standing) : Type 0 where
   pub offers : Offers c.n (into c) ok x v q s v' q' s'
-  pub walk : Walking c.head c.next c.m x (λ i. SourceVisited c.n ok v' (get_or c.ends i 0) i) p
+  pub walk : Walking c.head c.next c.m x (λ i. SourceVisited c.n ok v' (get_or c.ends i 0) i) w
 
 module _ {c : Chains} {ok : ℕ → ℕ → Bool} {x : ℕ} {v q : List ℕ} {s : Span} where
-  pub offer_first : {p : ℕ} → s.len + unvisited c.n v ≤ c.n → p ≡ first_at c.head c.m x → OfferWalk c ok x v q s v q s p
+  pub offer_first : {w : Standing} → s.len + unvisited c.n v ≤ c.n → Starts c.head c.next c.m x w → OfferWalk c ok x v q s v q s w
   offer_first room e = record { offers = offers_none room; walk = walk_first e }
 
-  pub offer_next : {v' q' v'' q'' : List ℕ} {s' s'' : Span} {p p' : ℕ} → OfferWalk c ok x v q s v' q' s' p → 0 < p → p' ≡ next_at c.next p → visited_length c.n ≤ length v → c.n ≤ length q → Offered c.n (ok (get_or c.ends (p - 1) 0) (p - 1)) (get_or c.ends (p - 1) 0) v' q' s' v'' q'' s'' → OfferWalk c ok x v q s v'' q'' s'' p'
-  offer_next {v'} {q'} {p = p} w h e in_v in_q o =
+  pub offer_next : {v' q' v'' q'' : List ℕ} {s' s'' : Span} {w w' : Standing} (p : ℕ) → OfferWalk c ok x v q s v' q' s' w → Turn w (Some p) w' → visited_length c.n ≤ length v → c.n ≤ length q → Offered c.n (ok (get_or c.ends p 0) p) (get_or c.ends p 0) v' q' s' v'' q'' s'' → OfferWalk c ok x v q s v'' q'' s'' w'
+  offer_next {v'} {q'} p o turn in_v in_q d =
       record {
-        offers = offers_more (get_or c.ends (p - 1) 0) (p - 1) w.offers (walk_here w.walk h, refl) in_v in_q o;
+        offers = offers_more (get_or c.ends p 0) p o.offers (walk_here o.walk p turn, refl) in_v in_q d;
         walk =
-            walk_next (walk_done w.walk (λ i z k t. offered_grows c.n (get_or c.ends (p - 1) 0) w.offers.room in_v' in_q' o (get_or c.ends i 0) (z k t))) h e
-            (offered_visited c.n (get_or c.ends (p - 1) 0) w.offers.room in_v' in_q' o);
+            walk_next (walk_done o.walk (λ i z k t. offered_grows c.n (get_or c.ends p 0) o.offers.room in_v' in_q' d (get_or c.ends i 0) (z k t))) p turn
+            (offered_visited c.n (get_or c.ends p 0) o.offers.room in_v' in_q' d);
       }
     where
       in_v' : visited_length c.n ≤ length v'
-      in_v' = let e = w.offers.visits in omega arith
+      in_v' = let e = o.offers.visits in omega arith
 
       in_q' : c.n ≤ length q'
-      in_q' = let e = w.offers.queues in omega arith
+      in_q' = let e = o.offers.queues in omega arith
 
-  pub offer_last : {v' q' : List ℕ} {s' : Span} {p : ℕ} → OfferWalk c ok x v q s v' q' s' p → p ≤ 0 → SourcesVisited c.n (into c) ok v' x
-  offer_last w h r i a = rw a.1 at (walk_end w.walk h i a.0)
+  pub offer_last : {v' q' : List ℕ} {s' : Span} {w w' : Standing} → OfferWalk c ok x v q s v' q' s' w → Turn w None w' → SourcesVisited c.n (into c) ok v' x
+  offer_last o turn r i a = rw a.1 at (walk_end o.walk turn i a.0)

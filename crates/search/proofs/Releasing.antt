@@ -4,7 +4,7 @@ use mathlib.Core.Path.{◌≡◌, refl, sym, ◌∙◌}
 use mathlib.Core.Logic.{◌⊎◌, inl, inr, ⊎_elim}
 use mathlib.Core.Bool.{Bool, true, false, not, ◌&&◌, false≢true}
 use mathlib.Core.List.{List}
-use Prim.Native.Nat.{ℕ, ◌+◌, ◌-◌, ◌≤◌, ◌<◌}
+use Prim.Native.Nat.{ℕ, ◌+◌, ◌≤◌, ◌<◌}
 use native.Mathlib.Omega.{arith}
 use native.Mathlib.Decide.{ℕ_discrete, dec_lt}
 use lib.ListN.{length, get_or, set}
@@ -14,7 +14,8 @@ use Rattle.tables.specs.Tables.{visited_length}
 use Rattle.tables.specs.Visits.{marked, unmark}
 use Rattle.tables.proofs.Keeping.{kept_none, kept_trans, kept_set}
 use Rattle.tables.proofs.Marking.{has-mark, marked_unmark, marked_unmark_other, kept_unmark}
-use Rattle.adjacency.specs.Walks.{first_at, next_at}
+use Rattle.std.specs.Prelude.{Some, None}
+use Rattle.adjacency.specs.Walks.{Standing, Turn, Starts}
 use Rattle.search.specs.Counting.{count}
 use Rattle.search.specs.Spreading.{Chains, into, Before}
 use Rattle.search.specs.Releasing.{hopeful, outside, WayOut, WayTo, Releases, QueuedBelow, FindsOut, none, found, Tried, stays, leaves, Pulled, passed, pulled, Escapes, NoSource, Rescues}
@@ -167,14 +168,14 @@ outside_less n status visited visited₀ t f e = at (hopeful n status t) (marked
     at true false b g q = absurd (clash refl q)
 
 -- What a search for a way out answers.
-module _ {n : ℕ} {Arc : Arcs} {status visited : List ℕ} {x r : ℕ} where
-  pub no_way : FindsOut n Arc status visited x r → r ≤ 0 → (p t : ℕ) → Arc x p t → outside n status visited t ≡ false
-  no_way (none e f) h = f
-  no_way (found p t e l o) h = absurd (omega arith)
+module _ {n : ℕ} {Arc : Arcs} {status visited : List ℕ} {x : ℕ} where
+  pub no_way : FindsOut n Arc status visited x None → (p t : ℕ) → Arc x p t → outside n status visited t ≡ false
+  no_way (none e f) = f
+  no_way (found p t e l o) = cc
 
-  pub a_way : FindsOut n Arc status visited x r → 0 < r → (t : ℕ) × Arc x (r - 1) t × (outside n status visited t ≡ true)
-  a_way (none e f) h = absurd (omega arith)
-  a_way (found p t e l o) h = let z : r - 1 ≡ p = omega arith in rw z (t, l, o)
+  pub a_way : {p : ℕ} → FindsOut n Arc status visited x (Some p) → (t : ℕ) × Arc x p t × (outside n status visited t ≡ true)
+  a_way (none e f) = cc
+  a_way {p} (found q t e l o) = let z : p ≡ q = cc in rw z (t, l, o)
 
 -- The escapes over the first `at` of the queue: the released nodes stand before `at`, and the queue is as it was from there on.
 pub record Trying (n : ℕ) (Arc : Arcs) (status visited₀ successor₀ queue₀ visited successor queue : List ℕ) (at k : ℕ) : Type 0 where
@@ -233,31 +234,31 @@ module _ {n : ℕ} {Arc : Arcs} {status visited₀ successor₀ queue₀ visited
             other (yes e) a m = absurd (a (at_first j e))
             other (no d) a m = trying.sofar.no_escape j (omega arith) m p t l
 
--- The rescue of the sources of x, where the walk over them stands at `at`: each source that it passed is not visited.
-pub record Pulling (c : Chains) (x : ℕ) (visited₀ successor₀ queue₀ visited successor queue : List ℕ) (len k at : ℕ) : Type 0 where
+-- The rescue of the sources of x, by a walk over them: each source that it passed is not visited.
+pub record Pulling (c : Chains) (x : ℕ) (visited₀ successor₀ queue₀ visited successor queue : List ℕ) (len k : ℕ) (w : Standing) : Type 0 where
   pub part : Releases c.n (WayTo (into c)) visited₀ successor₀ queue₀ visited successor queue len k
-  pub walk : Walking c.head c.next c.m x (λ i. get_or c.ends i 0 < c.n → marked visited (get_or c.ends i 0) ≡ false) at
+  pub walk : Walking c.head c.next c.m x (λ i. get_or c.ends i 0 < c.n → marked visited (get_or c.ends i 0) ≡ false) w
 
 module _ {c : Chains} {x : ℕ} {visited₀ successor₀ queue₀ : List ℕ} {len : ℕ} where
-  pub pulling_first : {at : ℕ} → len + count c.n (marked visited₀) ≤ c.n → at ≡ first_at c.head c.m x → Pulling c x visited₀ successor₀ queue₀ visited₀ successor₀ queue₀ len len at
+  pub pulling_first : {w : Standing} → len + count c.n (marked visited₀) ≤ c.n → Starts c.head c.next c.m x w → Pulling c x visited₀ successor₀ queue₀ visited₀ successor₀ queue₀ len len w
   pulling_first r e = record { part = releases_none visited₀ successor₀ queue₀ len r; walk = walk_first e }
 
-  module _ {visited successor queue : List ℕ} {k at : ℕ} (pulling : Pulling c x visited₀ successor₀ queue₀ visited successor queue len k at) where
-    pub pulling_end : at ≤ 0 → NoSource c.n (into c) visited x
-    pulling_end h s p a b = rw a.1 at (walk_end pulling.walk h p a.0 (rw a.1 b))
+  module _ {visited successor queue : List ℕ} {k : ℕ} {w : Standing} (pulling : Pulling c x visited₀ successor₀ queue₀ visited successor queue len k w) where
+    pub pulling_end : {w' : Standing} → Turn w None w' → NoSource c.n (into c) visited x
+    pulling_end turn s p a b = rw a.1 at (walk_end pulling.walk turn p a.0 (rw a.1 b))
 
-    module _ (before : Before queue₀ len x) (in_visited : visited_length c.n ≤ length visited₀) (in_successor : c.n ≤ length successor₀) (in_queue : c.n ≤ length queue₀) (on : 0 < at) where
-      pub pulling_more : {at' r : ℕ} {visited' successor' queue' : List ℕ} → at' ≡ next_at c.next at → Pulled c.n (get_or c.ends (at - 1) 0) (at - 1) visited successor queue visited' successor' queue' k r → Pulling c x visited₀ successor₀ queue₀ visited' successor' queue' len r at'
-      pulling_more e (passed f u) =
-          rw (u.visits, u.successors, u.queues, u.number) (record { part = pulling.part; walk = walk_next pulling.walk on e f })
-      pulling_more e (pulled h is t) =
-          let y = get_or c.ends (at - 1) 0 in
+    module _ (before : Before queue₀ len x) (in_visited : visited_length c.n ≤ length visited₀) (in_successor : c.n ≤ length successor₀) (in_queue : c.n ≤ length queue₀) (p : ℕ) {w' : Standing} (turn : Turn w (Some p) w') where
+      pub pulling_more : {r : ℕ} {visited' successor' queue' : List ℕ} → Pulled c.n (get_or c.ends p 0) p visited successor queue visited' successor' queue' k r → Pulling c x visited₀ successor₀ queue₀ visited' successor' queue' len r w'
+      pulling_more (passed f u) =
+          rw (u.visits, u.successors, u.queues, u.number) (record { part = pulling.part; walk = walk_next pulling.walk p turn f })
+      pulling_more (pulled h is t) =
+          let y = get_or c.ends p 0 in
           let o = pulling.part in
           let early = way_to_early (into c) in
-          let one = releases_one c.n visited successor queue k o.room y (at - 1) h is (omega (arith, o.visits.size)) (omega (arith, o.successors.size)) (omega (arith, o.queues.size)) (WayTo (into c)) early (x, (walk_here pulling.walk on, refl), (before.0, omega (arith, o.more, before.1), o.stable before.0 before.1 ∙ before.2)) in
+          let one = releases_one c.n visited successor queue k o.room y p h is (omega (arith, o.visits.size)) (omega (arith, o.successors.size)) (omega (arith, o.queues.size)) (WayTo (into c)) early (x, (walk_here pulling.walk p turn, refl), (before.0, omega (arith, o.more, before.1), o.stable before.0 before.1 ∙ before.2)) in
           rw (t.visits, t.successors, t.queues, t.number) (record {
             part = releases_then early o one;
-            walk = walk_next (walk_done pulling.walk (λ i d l. gone early o one (get_or c.ends i 0) (d l))) on e (λ l. marked_unmark visited y (has-mark c.n visited y h (omega (arith, o.visits.size))));
+            walk = walk_next (walk_done pulling.walk (λ i d l. gone early o one (get_or c.ends i 0) (d l))) p turn (λ l. marked_unmark visited y (has-mark c.n visited y h (omega (arith, o.visits.size))));
           })
 
 -- The rescue over the first `at` of the queue.

@@ -1,11 +1,12 @@
--- A walk over the steps at v that stands at `at`: the steps that it meets from there are steps at v, and every other step at v is done. What a loop over such a walk keeps.
+-- A walk over the steps at v: the steps that it meets from where it stands are steps at v, and every other step at v is done. What a loop over such a walk keeps.
 -- Assumes nothing.
-use mathlib.Core.Path.{◌≡◌}
+use mathlib.Core.Path.{◌≡◌, ◌∙◌}
 use mathlib.Core.Logic.{◌⊎◌, inl, inr, ⊎_elim}
 use mathlib.Core.List.{List}
-use Prim.Native.Nat.{ℕ, zero, suc, ◌-◌, ◌≤◌, ◌<◌}
+use Prim.Native.Nat.{ℕ, suc, ◌-◌, ◌≤◌, ◌<◌}
 use native.Mathlib.Omega.{arith}
-use Rattle.adjacency.specs.Walks.{first_at, next_at, Meets, now', later, Linked}
+use Rattle.std.specs.Prelude.{Some, None}
+use Rattle.adjacency.specs.Walks.{next_at, Standing, Turn, Starts, Meets, now', later, Linked}
 use Rattle.adjacency.proofs.Walks.{first_inside, clamp_below, meets_none, meets_step, meets_inside}
 use lib.ListN.{get_or}
 
@@ -13,37 +14,45 @@ use lib.ListN.{get_or}
 pub linked_inside : (head next : List ℕ) (m v : ℕ) {i : ℕ} → Linked head next m v i → i < m
 linked_inside head next m v k = omega (arith, meets_inside k, first_inside head m v)
 
-pub record Walking (head next : List ℕ) (m v : ℕ) (Done : ℕ → Type 0) (at : ℕ) : Type 0 where
-  pub inside : at ≤ m
-  pub only : (i : ℕ) → Meets next i at → Linked head next m v i
-  pub rest : (i : ℕ) → Linked head next m v i → Done i ⊎ Meets next i at
+pub record Walking (head next : List ℕ) (m v : ℕ) (Done : ℕ → Type 0) (w : Standing) : Type 0 where
+  pub inside : w.at ≤ m
+  pub goes_by : w.next ≡ next
+  pub only : (i : ℕ) → Meets next i w.at → Linked head next m v i
+  pub rest : (i : ℕ) → Linked head next m v i → Done i ⊎ Meets next i w.at
 
 module _ {head next : List ℕ} {m v : ℕ} {Done : ℕ → Type 0} where
-  pub walk_first : {at : ℕ} → at ≡ first_at head m v → Walking head next m v Done at
-  walk_first e = rw e (record { inside = first_inside head m v; only = λ i k. k; rest = λ i k. inr k })
+  pub walk_first : {w : Standing} → Starts head next m v w → Walking head next m v Done w
+  walk_first {w} (e, b) =
+      record {
+        inside = omega (arith, first_inside head m v);
+        goes_by = b;
+        only = λ i k. rw e at k;
+        rest = λ i k. inr (rw e k);
+      }
 
-  -- the step where it stands
-  pub walk_here : {at : ℕ} → Walking head next m v Done at → 0 < at → Linked head next m v (at - 1)
-  walk_here {at} w h = w.only (at - 1) (now' (omega arith))
+  module _ {w : Standing} (walk : Walking head next m v Done w) where
+    -- the step where it stands
+    pub walk_here : (p : ℕ) {w' : Standing} → Turn w (Some p) w' → Linked head next m v p
+    walk_here p (e, _, _) = walk.only p (now' (omega arith))
 
-  pub walk_next : {at at' : ℕ} → Walking head next m v Done at → 0 < at → at' ≡ next_at next at → Done (at - 1) → Walking head next m v Done at'
-  walk_next {at = zero} w h e d = absurd (omega arith)
-  walk_next {at = suc b} w h e d =
-      rw e (record {
-        inside = let l = clamp_below (get_or next (suc b - 1) 0) (suc b) (omega arith) in omega (arith, w.inside);
-        only = λ i k. w.only i (later k);
-        rest = λ i k. ⊎_elim inl (λ q. ⊎_elim (λ z. inl (here i z)) inr (meets_step q)) (w.rest i k);
-      })
-    where
-      here : (i : ℕ) → i ≡ b → Done i
-      here i z = let q : i ≡ suc b - 1 = omega arith in rw q d
+    pub walk_next : (p : ℕ) {w' : Standing} → Turn w (Some p) w' → Done p → Walking head next m v Done w'
+    walk_next p {w'} (e, at, by) d =
+        record {
+          inside = let l = clamp_below (get_or w.next (w.at - 1) 0) w.at (omega arith) in omega (arith, walk.inside);
+          goes_by = by ∙ walk.goes_by;
+          only = λ i k. walk.only i (rw place (later (rw there at k)));
+          rest = λ i k. ⊎_elim inl (λ q. ⊎_elim (λ z. inl (rw z d)) (λ q. inr (rw there q)) (meets_step (rw place at q))) (walk.rest i k);
+        }
+      where
+        place : w.at ≡ suc p
+        place = omega arith
 
-  pub walk_end : {at : ℕ} → Walking head next m v Done at → at ≤ 0 → (i : ℕ) → Linked head next m v i → Done i
-  walk_end {at} w h i k = ⊎_elim (λ d. d) (λ q. absurd (meets_none (rw z at q))) (w.rest i k)
-    where
-      z : at ≡ 0
-      z = omega arith
+        there : w'.at ≡ next_at next (suc p)
+        there = rw (← place, ← walk.goes_by) at
 
-  -- what was done stays done
-  pub walk_done : {at : ℕ} {Done' : ℕ → Type 0} → Walking head next m v Done at → ((i : ℕ) → Done i → Done' i) → Walking head next m v Done' at
-  walk_done w f = record { inside = w.inside; only = w.only; rest = λ i k. ⊎_elim (λ d. inl (f i d)) inr (w.rest i k) }
+    pub walk_end : {w' : Standing} → Turn w None w' → (i : ℕ) → Linked head next m v i → Done i
+    walk_end (z, _) i k = ⊎_elim (λ d. d) (λ q. absurd (meets_none (rw z at q))) (walk.rest i k)
+
+    -- what was done stays done
+    pub walk_done : {Done' : ℕ → Type 0} → ((i : ℕ) → Done i → Done' i) → Walking head next m v Done' w
+    walk_done f = record { inside = walk.inside; goes_by = walk.goes_by; only = walk.only; rest = λ i k. ⊎_elim (λ d. inl (f i d)) inr (walk.rest i k) }

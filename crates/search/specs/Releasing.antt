@@ -1,6 +1,6 @@
 -- Releasing visited nodes: which of them keep a way to a node that is not visited. Each released node is unmarked, has that way as its successor, and stands in the front of the queue, behind those that were released before it.
 -- Assumes nothing.
-use Rattle.std.specs.Prelude.{◌≡◌, ◌⊎◌, Bool, true, false, not, ◌&&◌, ◌||◌, List, ℕ, ◌+◌, ◌≤◌, ◌<◌, eqb, ltb, get_or, set}
+use Rattle.std.specs.Prelude.{◌≡◌, ◌⊎◌, Bool, true, false, not, ◌&&◌, ◌||◌, List, ℕ, ◌+◌, ◌≤◌, ◌<◌, eqb, ltb, get_or, set, Option, Some, None}
 use Rattle.gid.specs.Statuses.{status_open, status_unknown}
 use Rattle.gid.specs.Systems.{Arcs}
 use Rattle.tables.specs.Visits.{marked, unmark}
@@ -56,10 +56,10 @@ pub record Releases (n : ℕ) (Way : List ℕ → ℕ → ℕ → ℕ → Type 0
 abbrev pub QueuedBelow : ℕ → List ℕ → ℕ → Type 0
 QueuedBelow n queue k = (j : ℕ) → j < k → get_or queue j 0 < n
 
--- A search for an arc from x that leads out: 1 + its number, or 0 where none does.
-pub data FindsOut (n : ℕ) (Arc : Arcs) (status visited : List ℕ) (x r : ℕ) : Type 0 where
-  none : r ≡ 0 → ((p t : ℕ) → Arc x p t → outside n status visited t ≡ false) → FindsOut n Arc status visited x r
-  found : (p t : ℕ) → r ≡ p + 1 → Arc x p t → outside n status visited t ≡ true → FindsOut n Arc status visited x r
+-- A search for an arc from x that leads out: its number, or that none does.
+pub data FindsOut (n : ℕ) (Arc : Arcs) (status visited : List ℕ) (x : ℕ) (r : Option ℕ) : Type 0 where
+  none : r ≡ None → ((p t : ℕ) → Arc x p t → outside n status visited t ≡ false) → FindsOut n Arc status visited x r
+  found : (p t : ℕ) → r ≡ Some p → Arc x p t → outside n status visited t ≡ true → FindsOut n Arc status visited x r
 
 -- A queued node x is released by an arc that leads out, unless it is not visited or has none.
 pub data Tried (n : ℕ) (Arc : Arcs) (status : List ℕ) (x : ℕ) (visited successor queue visited' successor' queue' : List ℕ) (k r : ℕ) : Type 0 where

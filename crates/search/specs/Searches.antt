@@ -3,9 +3,8 @@
 use Rattle.std.specs.Prelude.{List, ℕ}
 use Rattle.gid.specs.Statuses.{status_live, status_dead}
 use Rattle.gid.specs.Systems.{Arcs}
-use Rattle.search.specs.declared.spread.Mode.TheVariants.{Live, Tree}
 use Rattle.search.specs.declared.spread.Span.{Span}
-use Rattle.search.specs.Spreading.{allowed, Spread}
+use Rattle.search.specs.Spreading.{Live, Tree, allowed, Spread}
 use Rattle.search.specs.Releasing.{Escapes, Rescues}
 use Rattle.search.specs.Settling.{Settled}
 

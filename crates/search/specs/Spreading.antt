@@ -1,33 +1,14 @@
 -- Spreading backwards along arcs: which nodes a search visits.
 -- Assumes nothing.
-use Rattle.std.specs.Prelude.{◌≡◌, ◌↔◌, ◌⊎◌, Bool, true, not, ◌&&◌, List, ℕ, ◌+◌, ◌≤◌, ◌<◌, eqb, length, get_or}
+use Rattle.std.specs.Prelude.{◌≡◌, ◌↔◌, ◌⊎◌, Bool, true, not, ◌&&◌, List, ℕ, ◌+◌, ◌≤◌, ◌<◌, eqb, get_or}
 use Rattle.gid.specs.Statuses.{status_unknown, status_live}
 use Rattle.gid.specs.Systems.{Arcs}
 use Rattle.tables.specs.Visits.{marked}
 use Rattle.tables.specs.Keeping.{Kept, KeptVisited}
 use Rattle.adjacency.specs.Walks.{Linked}
-use Rattle.search.specs.declared.spread.Mode.{Mode}
-use Rattle.search.specs.declared.spread.Mode.TheVariants.{Live, Tree, Claimed}
+pub use Rattle.adjacency.specs.Chains.{Chains, chains, Walkable}
 use Rattle.search.specs.declared.spread.Span.{Span}
 use Rattle.search.specs.Counting.{count}
-
--- The first m steps over n states, chained at one end, with the list of their other ends.
-pub record Chains : Type 0 where
-  pub n : ℕ
-  pub m : ℕ
-  pub ends : List ℕ
-  pub head : List ℕ
-  pub next : List ℕ
-
-abbrev pub chains : ℕ → ℕ → List ℕ → List ℕ → List ℕ → Chains
-chains n m ends head next = record { n = n; m = m; ends = ends; head = head; next = next }
-
--- The tables are long enough for a walk.
-pub record Walkable (c : Chains) : Type 0 where
-  pub few : c.m < 65535
-  pub heads : c.n ≤ length c.head
-  pub nexts : c.m ≤ length c.next
-  pub ends' : c.m ≤ length c.ends
 
 -- The steps that walks meet, as arcs: where they are chained at their targets, and where at their sources. Everything below speaks of any arcs.
 abbrev pub into : Chains → Arcs
@@ -36,11 +17,19 @@ into c s i t = Linked c.head c.next c.m t i × (get_or c.ends i 0 ≡ s)
 abbrev pub out_of : Chains → Arcs
 out_of c s i t = Linked c.head c.next c.m s i × (get_or c.ends i 0 ≡ t)
 
+-- Which sources of a visited node are allowed.
+pub data Mode : Type 0 where
+  Live Tree Claimed : Mode
+
 -- Whether the source y of the arc i is allowed. Live: it is not live. Tree: it is unknown, and this very arc is its successor. Claimed: its status is live.
 abbrev pub allowed : Mode → List ℕ → List ℕ → ℕ → ℕ → Bool
 allowed Live status successor y i = not (eqb (get_or status y 0) status_live)
 allowed Tree status successor y i = eqb (get_or status y 0) status_unknown && eqb (get_or successor y 0) i
 allowed Claimed status successor y i = eqb (get_or status y 0) status_live
+
+-- What calls answer at a node below n and an arc is what the test ok says of them.
+abbrev pub Tells : ℕ → (ℕ → ℕ → Bool → Type 0) → (ℕ → ℕ → Bool) → Type 0
+Tells n answers ok = (y i : ℕ) (r : Bool) → y < n → answers y i r → r ≡ ok y i
 
 -- The nodes below n that are reached backwards from the starts, by sources that pass a test.
 pub data Reached (n : ℕ) (Arc : Arcs) (ok : ℕ → ℕ → Bool) (Start : ℕ → Type 0) : ℕ → Type 0 where

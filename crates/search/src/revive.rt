@@ -2,44 +2,34 @@
 ghost use Rattle.std.specs.Prelude.{◌≤◌, length};
 ghost use Rattle.gid.specs.Refusals.{max_states};
 ghost use Rattle.tables.specs.Tables.{visited_length};
-ghost use Rattle.search.specs.Spreading.{chains, into, Walkable, Queued};
+ghost use Rattle.adjacency.specs.Adjacencies.{chains_of};
+ghost use Rattle.search.specs.Spreading.{into, Queued};
 ghost use Rattle.search.specs.Searches.{Revives};
 
 use super::settle::settle;
-use super::spread::{Mode, Span, spread};
+use super::spread::{Span, spread};
+use adjacency::Adjacency;
 use tables::LIVE;
 
 // Settles live the queued nodes, and every other one that leads to them. Answers the number of news.
 pub fn revive(
-    n: usize,
-    steps: usize,
     starts: Span,
+    arcs: Adjacency,
     status: &mut [u8],
-    from: &[u16],
     successor: &mut [u16],
     news: &mut [u16],
-    in_head: &[u16],
     queue: &mut [u16],
     visited: &mut [u16],
-    in_next: &[u16],
 ) -> usize
-    requires queued { (n ≤ max_states) × Queued n visited.old queue.old starts }
-    requires walkable { Walkable (chains n steps from.now in_head.now in_next.now) }
-    requires n_in_bounds { (n ≤ length status.old) × (n ≤ length successor.old) × (n ≤ length news.old) × (n ≤ length queue.old) × (visited_length n ≤ length visited.old) }
-    ensures { Revives n (into (chains n steps from.now in_head.now in_next.now)) starts (record { status = status.entry.now; successor = successor.old; news = news.old; visited = visited.old; queue = queue.old }) (record { status = status.exit.now; successor = successor.new; news = news.new; visited = visited.new; queue = queue.new }) result }
+    requires n_fits { arcs.n ≤ max_states }
+    requires queued { Queued arcs.n visited.old queue.old starts }
+    requires status_in_bounds { arcs.n ≤ length status.old }
+    requires successor_in_bounds { arcs.n ≤ length successor.old }
+    requires news_in_bounds { arcs.n ≤ length news.old }
+    requires queue_in_bounds { arcs.n ≤ length queue.old }
+    requires visited_in_bounds { visited_length arcs.n ≤ length visited.old }
+    ensures { Revives arcs.entry.n (into (chains_of arcs.entry)) starts (record { status = status.entry.now; successor = successor.old; news = news.old; visited = visited.old; queue = queue.old }) (record { status = status.exit.now; successor = successor.new; news = news.new; visited = visited.new; queue = queue.new }) result }
 {
-    let span = spread(
-        Mode::Live,
-        n,
-        steps,
-        starts,
-        from,
-        in_head,
-        in_next,
-        status,
-        successor,
-        queue,
-        visited,
-    );
+    let span = spread(|y, _| status[y] != LIVE, starts, arcs, queue, visited);
     settle(span, LIVE, status, successor, news, visited)
 }

@@ -17,15 +17,19 @@ pub fn settle(
     news: &mut [u16],
     visited: &mut [u16],
 ) -> usize
-    requires { (span.high < length status.old) × (span.high < length successor.old) × (span.high < length news.old) × (visited_length (span.high + 1) ≤ length visited.old) × (span.high < 65535) }
+    requires status_in_bounds { span.high < length status.old }
+    requires successor_in_bounds { span.high < length successor.old }
+    requires news_in_bounds { span.high < length news.old }
+    requires visited_in_bounds { visited_length (span.high + 1) ≤ length visited.old }
+    requires high_fits { span.high < 65535 }
     ensures { Settled span.low span.high verdict
         status.old successor.old news.old visited.old
         status.new successor.new news.new visited.new result }
 {
-    let high = span.high;
     let mut s = span.low;
     let mut count = 0;
-    while s <= high {
+    // What is visited decides where to go on, and each turn changes it: an iterator over the marks would have to be made anew in each.
+    while s <= span.high {
         count = settle_node(s, verdict, count, status, successor, news, visited);
         s = skip_unvisited(visited, s);
     }
@@ -41,7 +45,11 @@ fn settle_node(
     news: &mut [u16],
     visited: &mut [u16],
 ) -> usize
-    requires { (s < length status.old) × (s < length successor.old) × HasMark visited.old s × (s < 65536) × (count < length news.old) }
+    requires status_in_bounds { s < length status.old }
+    requires successor_in_bounds { s < length successor.old }
+    requires has_mark { HasMark visited.old s }
+    requires s_fits { s < 65536 }
+    requires news_has_room { count < length news.old }
     ensures { SettledOne s verdict count
         status.old successor.old news.old visited.old
         status.new successor.new news.new visited.new result }
@@ -57,7 +65,8 @@ fn settle_node(
 
 // The news of a settled node: which state it names is said here alone.
 fn tell(node: usize, count: usize, news: &mut [u16]) -> usize
-    requires { (node < 65536) × (count < length news.old) }
+    requires node_fits { node < 65536 }
+    requires news_has_room { count < length news.old }
     ensures { Told node count news.old news.new result }
 {
     news[count] = node as u16;

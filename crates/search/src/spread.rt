@@ -1,23 +1,13 @@
 // The closure along steps backwards. Queue length + number of unvisited nodes below n never grows, so the queue has room.
-ghost use Rattle.std.specs.Prelude.{◌≡◌, ℕ, ◌+◌, ◌≤◌, ◌<◌, length, get_or};
+ghost use Rattle.std.specs.Prelude.{◌≡◌, ℕ, Bool, ◌+◌, ◌≤◌, ◌<◌, length};
 ghost use Rattle.tables.specs.Tables.{visited_length};
 ghost use Rattle.tables.specs.Visits.{HasMark};
-ghost use Rattle.search.specs.Spreading.{chains, into, Walkable, allowed, unvisited, Queued, Spread};
+ghost use Rattle.adjacency.specs.Adjacencies.{chains_of};
+ghost use Rattle.search.specs.Spreading.{into, Tells, unvisited, Queued, Spread};
 ghost use Rattle.search.specs.Offering.{Begun, Admitted, Offered, Offers, SourcesVisited};
 
-use adjacency::{after, first};
-use tables::{LIVE, UNKNOWN, is_visited, set_visited, wide};
-
-// Which sources of a visited node are allowed.
-#[derive(Clone, Copy)]
-pub enum Mode {
-    // Those that are not live.
-    Live,
-    // The unknown ones whose successor is that very step.
-    Tree,
-    // Those whose status is live.
-    Claimed,
-}
+use adjacency::Adjacency;
+use tables::{is_visited, set_visited};
 
 // The nodes that were admitted: how many are queued, and bounds of them.
 #[derive(Clone, Copy)]
@@ -27,132 +17,97 @@ pub struct Span {
     pub high: usize,
 }
 
-// From the queued nodes, visits over and over each allowed source of a visited node.
-pub fn spread(
-    mode: Mode,
-    n: usize,
-    steps: usize,
+// From the queued nodes, visits over and over each allowed source of a visited node: `allows` says whether the source y of the step at index p
+// is allowed.
+pub fn spread<F: Fn(usize, usize) -> bool>(
+    allows: F,
     starts: Span,
-    from: &[u16],
-    in_head: &[u16],
-    in_next: &[u16],
-    status: &[u8],
-    successor: &[u16],
+    arcs: Adjacency,
     queue: &mut [u16],
     visited: &mut [u16],
 ) -> Span
-    requires queued { (n < 65536) × Queued n visited.old queue.old starts }
-    requires walkable { Walkable (chains n steps from.now in_head.now in_next.now) }
-    requires n_in_bounds { (n ≤ length status.now) × (n ≤ length successor.now) × (n ≤ length queue.old) × (visited_length n ≤ length visited.old) }
-    ensures { Spread n (into (chains n steps from.now in_head.now in_next.now))
-        (allowed mode status.now successor.now)
+    requires callable { (y p : ℕ) → y < arcs.n → F.pre allows y p }
+    requires tells { (ok : ℕ → ℕ → Bool) × Tells arcs.n (F.post allows) ok }
+    requires n_fits { arcs.n < 65536 }
+    requires queued { Queued arcs.n visited.old queue.old starts }
+    requires queue_in_bounds { arcs.n ≤ length queue.old }
+    requires visited_in_bounds { visited_length arcs.n ≤ length visited.old }
+    ensures { (ok : ℕ → ℕ → Bool) → Tells arcs.entry.n (F.post allows) ok →
+        Spread arcs.entry.n (into (chains_of arcs.entry)) ok
         visited.old queue.old starts visited.new queue.new result }
 {
     let mut span = starts;
     let mut at = 0;
+    // The queue grows while it is gone through: no range and no iterator over it has an end that moves.
     while at < span.len {
-        let x = wide(queue[at]);
-        span = offer_sources(
-            mode, n, steps, x, span, from, in_head, in_next, status, successor, queue, visited,
-        );
-        at = at + 1;
+        let x = usize::from(queue[at]);
+        span = offer_sources(&allows, x, span, arcs, queue, visited);
+        at += 1;
     }
     span
 }
 
 // Offers the sources of all listed steps into x.
-fn offer_sources(
-    mode: Mode,
-    n: usize,
-    steps: usize,
+fn offer_sources<F: Fn(usize, usize) -> bool>(
+    allows: &F,
     x: usize,
     before: Span,
-    from: &[u16],
-    in_head: &[u16],
-    in_next: &[u16],
-    status: &[u8],
-    successor: &[u16],
+    arcs: Adjacency,
     queue: &mut [u16],
     visited: &mut [u16],
 ) -> Span
-    requires queue_has_room { (x < n) × (n < 65536) × (before.len + unvisited n visited.old ≤ n) }
-    requires walkable { Walkable (chains n steps from.now in_head.now in_next.now) }
-    requires n_in_bounds { (n ≤ length status.now) × (n ≤ length successor.now) × (n ≤ length queue.old) × (visited_length n ≤ length visited.old) }
-    ensures offers { Offers n (into (chains n steps from.now in_head.now in_next.now))
-        (allowed mode status.now successor.now)
-        x visited.old queue.old before visited.new queue.new result }
-    ensures sources_visited { SourcesVisited n (into (chains n steps from.now in_head.now in_next.now))
-        (allowed mode status.now successor.now) visited.new x }
+    requires callable { (y p : ℕ) → y < arcs.n → F.pre allows.now y p }
+    requires tells { (ok : ℕ → ℕ → Bool) × Tells arcs.n (F.post allows.now) ok }
+    requires in_range { x < arcs.n }
+    requires n_fits { arcs.n < 65536 }
+    requires queue_has_room { before.len + unvisited arcs.n visited.old ≤ arcs.n }
+    requires queue_in_bounds { arcs.n ≤ length queue.old }
+    requires visited_in_bounds { visited_length arcs.n ≤ length visited.old }
+    ensures { (ok : ℕ → ℕ → Bool) → Tells arcs.entry.n (F.post allows.now) ok →
+        Offers arcs.entry.n (into (chains_of arcs.entry)) ok
+        x visited.old queue.old before visited.new queue.new result
+        × SourcesVisited arcs.entry.n (into (chains_of arcs.entry)) ok visited.new x }
 {
     let mut span = before;
-    let mut p = first(in_head, x, steps);
-    while 0 < p {
-        span = offer(
-            mode,
-            n,
-            p - 1,
-            span,
-            from,
-            status,
-            successor,
-            queue,
-            visited,
-        );
-        p = after(in_next, p);
+    for p in arcs.steps_at(x) {
+        let y = usize::from(arcs.ends[p]);
+        span = offer(allows, arcs.n, p, y, span, queue, visited);
     }
     span
 }
 
-// Admits the source of the step at index p, where it is a node, not visited, and allowed.
-fn offer(
-    mode: Mode,
+// Admits y, the source of the step at index p, where it is a node, not visited, and allowed.
+fn offer<F: Fn(usize, usize) -> bool>(
+    allows: &F,
     n: usize,
     p: usize,
+    y: usize,
     span: Span,
-    from: &[u16],
-    status: &[u8],
-    successor: &[u16],
     queue: &mut [u16],
     visited: &mut [u16],
 ) -> Span
-    requires p_in_bounds { (p < length from.now) × (n < 65536) × (span.len + unvisited n visited.old ≤ n) }
-    requires n_in_bounds { (n ≤ length status.now) × (n ≤ length successor.now) × (n ≤ length queue.old) × (visited_length n ≤ length visited.old) }
-    ensures { Offered n (allowed mode status.now successor.now (get_or from.now p 0) p) (get_or from.now p 0)
-        visited.old queue.old span visited.new queue.new result }
+    requires callable { y < n → F.pre allows.now y p }
+    requires n_fits { n < 65536 }
+    requires queue_has_room { span.len + unvisited n visited.old ≤ n }
+    requires queue_in_bounds { n ≤ length queue.old }
+    requires visited_in_bounds { visited_length n ≤ length visited.old }
+    ensures { (ok : ℕ → ℕ → Bool) → Tells n (F.post allows.now) ok →
+        Offered n (ok y p) y visited.old queue.old span visited.new queue.new result }
 {
-    let y = wide(from[p]);
-    if n <= y {
+    if n <= y || is_visited(visited, y) {
         return span;
     }
-    if is_visited(visited, y) {
-        return span;
-    }
-    if allowed(mode, p, y, status, successor) {
+    if allows(y, p) {
         return admit(span, y, queue, visited);
     }
     span
 }
 
-// Whether y, the source of the step at index p, is allowed.
-fn allowed(mode: Mode, p: usize, y: usize, status: &[u8], successor: &[u16]) -> bool
-    requires { (y < length status.now) × (y < length successor.now) }
-    ensures { result ≡ allowed mode status.now successor.now y p }
-{
-    match mode {
-        Mode::Live => status[y] != LIVE,
-        Mode::Tree => {
-            if status[y] != UNKNOWN {
-                return false;
-            }
-            wide(successor[y]) == p
-        }
-        Mode::Claimed => status[y] == LIVE,
-    }
-}
-
 // Visits and queues one node, as the first.
 pub fn begin(start: usize, queue: &mut [u16], visited: &mut [u16]) -> Span
-    requires { HasMark visited.old start × (0 < length queue.old) × (start < 65536) }
+    requires has_mark { HasMark visited.old start }
+    requires queue_has_room { 0 < length queue.old }
+    requires start_fits { start < 65536 }
     ensures { Begun start visited.old queue.old visited.new queue.new result }
 {
     set_visited(visited, start);
@@ -166,27 +121,16 @@ pub fn begin(start: usize, queue: &mut [u16], visited: &mut [u16]) -> Span
 
 // Visits and queues a node behind the others.
 pub fn admit(span: Span, y: usize, queue: &mut [u16], visited: &mut [u16]) -> Span
-    requires { HasMark visited.old y × (span.len < length queue.old) × (y < 65536) }
+    requires has_mark { HasMark visited.old y }
+    requires queue_has_room { span.len < length queue.old }
+    requires y_fits { y < 65536 }
     ensures { Admitted y visited.old queue.old span visited.new queue.new result }
 {
-    let len = span.len;
     set_visited(visited, y);
-    queue[len] = y as u16;
+    queue[span.len] = y as u16;
     Span {
-        len: len + 1,
-        low: lesser(span.low, y),
-        high: greater(span.high, y),
+        len: span.len + 1,
+        low: span.low.min(y),
+        high: span.high.max(y),
     }
-}
-
-fn lesser(a: usize, b: usize) -> usize
-    ensures { (result ≤ a) × (result ≤ b) }
-{
-    if b < a { b } else { a }
-}
-
-fn greater(a: usize, b: usize) -> usize
-    ensures { (a ≤ result) × (b ≤ result) × ((n : ℕ) → a < n → b < n → result < n) }
-{
-    if a < b { b } else { a }
 }

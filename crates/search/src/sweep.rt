@@ -2,56 +2,44 @@
 ghost use Rattle.std.specs.Prelude.{◌≤◌, length};
 ghost use Rattle.gid.specs.Refusals.{max_states};
 ghost use Rattle.tables.specs.Tables.{visited_length};
-ghost use Rattle.search.specs.Spreading.{chains, into, out_of, Walkable, Queued};
+ghost use Rattle.adjacency.specs.Adjacencies.{chains_of};
+ghost use Rattle.search.specs.Spreading.{into, out_of, Queued};
 ghost use Rattle.search.specs.Searches.{Sweeps};
 
 use super::rescue::{escapes, rescue};
 use super::settle::settle;
-use super::spread::{Mode, Span, spread};
-use tables::DEAD;
+use super::spread::{Span, spread};
+use adjacency::BothWays;
+use tables::{DEAD, UNKNOWN};
 
 // Visits the unknown nodes whose successors lead to the queued ones, releases those with another way to an open node, and settles the rest
 // dead. Answers the number of news.
 pub fn sweep(
-    n: usize,
-    steps: usize,
     starts: Span,
+    arcs: BothWays,
     status: &mut [u8],
-    from: &[u16],
-    to: &[u16],
     successor: &mut [u16],
     news: &mut [u16],
-    in_head: &[u16],
-    out_head: &[u16],
     queue: &mut [u16],
     visited: &mut [u16],
-    in_next: &[u16],
-    out_next: &[u16],
 ) -> usize
-    requires queued { (n ≤ max_states) × Queued n visited.old queue.old starts }
-    requires walkable_into { Walkable (chains n steps from.now in_head.now in_next.now) }
-    requires walkable_out { Walkable (chains n steps to.now out_head.now out_next.now) }
-    requires n_in_bounds { (n ≤ length status.old) × (n ≤ length successor.old) × (n ≤ length news.old) × (n ≤ length queue.old) × (visited_length n ≤ length visited.old) }
-    ensures { Sweeps n (into (chains n steps from.now in_head.now in_next.now)) (out_of (chains n steps to.now out_head.now out_next.now)) starts (record { status = status.entry.now; successor = successor.old; news = news.old; visited = visited.old; queue = queue.old }) (record { status = status.exit.now; successor = successor.new; news = news.new; visited = visited.new; queue = queue.new }) result }
+    requires n_fits { arcs.into.n ≤ max_states }
+    requires queued { Queued arcs.into.n visited.old queue.old starts }
+    requires status_in_bounds { arcs.into.n ≤ length status.old }
+    requires successor_in_bounds { arcs.into.n ≤ length successor.old }
+    requires news_in_bounds { arcs.into.n ≤ length news.old }
+    requires queue_in_bounds { arcs.into.n ≤ length queue.old }
+    requires visited_in_bounds { visited_length arcs.into.n ≤ length visited.old }
+    ensures { Sweeps arcs.entry.into.n (into (chains_of arcs.entry.into)) (out_of (chains_of arcs.entry.out_of)) starts (record { status = status.entry.now; successor = successor.old; news = news.old; visited = visited.old; queue = queue.old }) (record { status = status.exit.now; successor = successor.new; news = news.new; visited = visited.new; queue = queue.new }) result }
 {
     let span = spread(
-        Mode::Tree,
-        n,
-        steps,
+        |y, p| status[y] == UNKNOWN && usize::from(successor[y]) == p,
         starts,
-        from,
-        in_head,
-        in_next,
-        status,
-        successor,
+        arcs.into,
         queue,
         visited,
     );
-    let released = escapes(
-        n, steps, span.len, to, out_head, out_next, status, successor, queue, visited,
-    );
-    rescue(
-        n, steps, released, from, in_head, in_next, successor, queue, visited,
-    );
+    let released = escapes(span.len, arcs.out_of, status, successor, queue, visited);
+    rescue(released, arcs.into, successor, queue, visited);
     settle(span, DEAD, status, successor, news, visited)
 }

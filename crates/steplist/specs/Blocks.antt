@@ -1,10 +1,6 @@
 -- What the parts of the search say of a block of places.
 -- Assumes nothing.
-use Rattle.std.specs.Prelude.{◌≡◌, List, ℕ, ◌<◌, ◌≤◌, length, get_or}
-
--- The m places that are looked at stand in the three tables.
-abbrev pub HasPlaces : ℕ → (from to key : List ℕ) → Type 0
-HasPlaces m from to key = (m ≤ length from) × (m ≤ length to) × (m ≤ length key)
+use Rattle.std.specs.Prelude.{◌≡◌, List, ℕ, ◌<◌, ◌≤◌, get_or}
 
 -- No place from start up to end has the source u and the target v.
 abbrev pub NoPair : (u v start end : ℕ) → (from to : List ℕ) → Type 0

@@ -1,2 +1,3 @@
 -- The laws of the programs' streams.
 pub mod Serving
+pub mod Driving

@@ -1,16 +1,23 @@
 // What a program does between two calls that list or draw: it reads a piece of its standard input, or writes to its standard output. Before the first it looks at its arguments.
 #![tactic(auto)]
 
-ghost use Rattle.std.specs.Prelude.{◌≡◌, true, ◌↔◌, ◌≤◌, ltb, length, codes};
+ghost use Rattle.std.specs.Prelude.{◌≡◌, true, ◌↔◌, ◌≤◌, [], ltb, length, codes};
+ghost use Rattle.reader.specs.declared.task.Task.TheVariants.{End};
+ghost use Rattle.tables.specs.Lending.{contents, StillLent};
 ghost use Rattle.streams.specs.declared.Served.{Served};
+ghost use Rattle.streams.specs.Driving.{Standing};
 ghost use Rattle.streams.specs.Serving.{Serves};
 
+mod drive;
+
+pub use drive::Drive;
 use reader::Task;
 use std::io::Read;
 use std::rt::Env;
+use tables::LentTables;
 
 // What came of a task.
-#[derive(Clone, Copy)]
+#[derive(Clone, Copy, PartialEq, Eq)]
 pub enum Served {
     // So many bytes of the input buffer are the piece to call with.
     Piece(usize),
@@ -24,43 +31,40 @@ impl Served {
     pub fn is_over(self) -> bool
         ensures { (result ≡ true) ↔ (self ≡ Served.Over) }
     {
-        match self {
-            Served::Piece(_) => false,
-            Served::Over => true,
-            Served::Failed => false,
+        matches!(self, Served::Over)
+    }
+}
+
+// A program's standard streams, its arguments, and its name for what it says.
+#[derive(Drop)]
+pub struct Streams<'a, R, E> {
+    pub rt: &'a R,
+    pub errors: &'a E,
+    pub program: &'a [u8],
+}
+
+impl<R: Env + Print, E: Print> Streams<'_, R, E> {
+    // Tells the usage where the command line has more words than the program's name, since a program takes no arguments, and answers whether it did. It goes to standard output where it is asked for, by `--help` alone, else to standard error.
+    pub fn told_usage(&self, usage: &[u8], words: usize) -> bool
+        ensures { result ≡ ltb 1 words }
+    {
+        if words < 2 {
+            return false;
         }
+        if words == 2 && self.asks_for_help() {
+            write_text(self, usage, usage.len());
+        } else {
+            // Where standard error cannot be written there is nobody left to tell.
+            let _ = self.errors.write_all(usage);
+        }
+        true
     }
-}
 
-// Tells the usage where the command line has more words than the program's name, since a program takes no arguments, and answers whether it did. It goes to standard output where it is asked for, by `--help` alone, else to standard error, which is `errors`.
-pub fn told_usage(
-    rt: &(impl Env + Print),
-    errors: &impl Print,
-    program: &[u8],
-    usage: &[u8],
-    words: usize,
-) -> bool
-    ensures { result ≡ ltb 1 words }
-{
-    if words < 2 {
-        return false;
+    // Whether the first argument is `--help`.
+    fn asks_for_help(&self) -> bool {
+        let mut word = [0; 6];
+        matches!(self.rt.arg(1, &mut word), Ok(6)) && is_help(word)
     }
-    tell(rt, errors, program, usage, asked_for_help(rt, words));
-    true
-}
-
-// Where standard error cannot be written there is nobody left to tell.
-fn tell(rt: &impl Print, errors: &impl Print, program: &[u8], usage: &[u8], asked: bool) {
-    if asked {
-        write_text(rt, errors, program, usage, usage.len());
-    } else {
-        let _ = errors.write_all(usage);
-    }
-}
-
-fn asked_for_help(rt: &impl Env, words: usize) -> bool {
-    let mut word = [0u8; 6];
-    words == 2 && matches!(rt.arg(1, &mut word), Ok(6)) && is_help(word)
 }
 
 fn is_help(word: [u8; 6]) -> bool
@@ -69,72 +73,73 @@ fn is_help(word: [u8; 6]) -> bool
     word == *b"--help"
 }
 
-// Does a task. `count` is the length of the piece at hand, `end` that of the text in the output. A read that fails counts as the end of the input, and standard error, which is `errors`, says so.
-pub fn serve(
-    rt: &(impl Input + Print),
-    errors: &impl Print,
-    program: &[u8],
-    task: Task,
-    end: usize,
-    count: usize,
-    input: &mut [u8],
-    output: &[u8],
-) -> Served
-    ensures { Serves task count input.old input.new result }
-{
-    match task {
-        Task::Read => Served::Piece(read_piece(rt, errors, program, input)),
-        Task::Write => {
-            if write_text(rt, errors, program, output, end) {
-                return Served::Piece(count);
-            }
-            Served::Failed
+impl<R: Input + Print, E: Print> Streams<'_, R, E> {
+    // Does a task. `count` is the length of the piece at hand, `end` that of the text in the output. A read that fails counts as the end of the input, and standard error says so.
+    pub fn serve(
+        &self,
+        task: Task,
+        end: usize,
+        count: usize,
+        input: &mut [u8],
+        output: &[u8],
+    ) -> Served
+        ensures { Serves task count input.old input.new result }
+    {
+        match task {
+            Task::Read => Served::Piece(self.read_piece(input)),
+            Task::Write if write_text(self, output, end) => Served::Piece(count),
+            Task::End if write_text(self, output, end) => Served::Over,
+            _ => Served::Failed,
         }
-        Task::End => {
-            if write_text(rt, errors, program, output, end) {
-                return Served::Over;
-            }
-            Served::Failed
+    }
+
+    // Does what is asked for, turn by turn, up to the last text, and answers whether that was written. Nothing says that an input ends, so the turns are counted, up to a number that no run reaches.
+    pub fn drive<D: Drive>(
+        &self,
+        work: &mut D,
+        input: &mut [u8],
+        output: &mut [u8],
+        tables: &mut LentTables,
+    ) -> bool
+        requires { D.stands [] [] work.old [] output.old (contents tables.old) }
+        ensures still_lent { StillLent tables.old tables.new }
+        ensures over { result ≡ true → D.task work.new ≡ End }
+        ensures stands { Standing D.stands work.new output.new (contents tables.new) }
+    {
+        let mut count = 0;
+        for _ in 0..u64::MAX {
+            let served = self.serve(work.task(), work.end(), count, input, output);
+            let Served::Piece(len) = served else {
+                return served.is_over();
+            };
+            work.go_on(&input[..len], output, tables);
+            count = len;
         }
+        false
+    }
+
+    // One call reads a piece, so that what a terminal or a pipe has is served at once.
+    fn read_piece(&self, input: &mut [u8]) -> usize
+        ensures { result ≤ length input.new }
+    {
+        let Ok(count) = self.rt.reader().read(input) else {
+            say(self, b": cannot read standard input\n");
+            return 0;
+        };
+        count
     }
 }
 
-// One call reads a piece, so that what a terminal or a pipe has is served at once.
-fn read_piece(rt: &impl Input, errors: &impl Print, program: &[u8], input: &mut [u8]) -> usize
-    ensures { result ≤ length input.new }
-{
-    match rt.reader().read(input) {
-        Ok(count) => count,
-        Err(_) => {
-            say(errors, program, b": cannot read standard input\n");
-            0
-        }
+fn write_text<R: Print, E: Print>(streams: &Streams<R, E>, text: &[u8], end: usize) -> bool {
+    let written = streams.rt.write_all(&text[..end.min(text.len())]).is_ok();
+    if !written {
+        say(streams, b": cannot write standard output\n");
     }
-}
-
-fn write_text(
-    rt: &impl Print,
-    errors: &impl Print,
-    program: &[u8],
-    output: &[u8],
-    end: usize,
-) -> bool {
-    if write_front(rt, output, end) {
-        return true;
-    }
-    say(errors, program, b": cannot write standard output\n");
-    false
-}
-
-fn write_front(rt: &impl Print, output: &[u8], end: usize) -> bool {
-    if end < output.len() {
-        return rt.write_all(&output[..end]).is_ok();
-    }
-    rt.write_all(output).is_ok()
+    written
 }
 
 // Where standard error cannot be written there is nobody left to tell.
-fn say(errors: &impl Print, program: &[u8], what: &[u8]) {
-    let _ = errors.write_all(program);
-    let _ = errors.write_all(what);
+fn say<R, E: Print>(streams: &Streams<R, E>, what: &[u8]) {
+    let _ = streams.errors.write_all(streams.program);
+    let _ = streams.errors.write_all(what);
 }

@@ -6,7 +6,6 @@ use Prim.Native.Nat.{ℕ, ◌+◌, ◌-◌, ◌≤◌, ◌<◌}
 use native.Mathlib.Omega.{arith}
 use lib.ListN.{length, get_or, set, drop, replicate, length-append, length-drop, length-replicate, length-set, get_or-append, get_or-replicate}
 use lib.Seq.{get_or-set_other, get_or-append-add, get_or-drop}
-use borrow.Author.Fill.{fill_none, fill_more}
 use Rattle.tables.specs.Tables.{Tables, lengths, visited_length}
 use Rattle.tables.specs.Keeping.{Kept, KeptTablesBy, KeptTables, filled}
 
@@ -105,15 +104,7 @@ lengths_kept k =
       out_next = k.out_next.size i;
     }
 
--- filling from the front, one entry after the other
-pub filled_none : (v : ℕ) (l : List ℕ) → l ≡ filled 0 v l
-unfolding filled
-filled_none v l = fill_none l v
-
-pub filled_more : (n v : ℕ) (l : List ℕ) → n < length l → set (filled n v l) n v ≡ filled (n + 1) v l
-unfolding filled
-filled_more n v l h = fill_more n v l h
-
+-- filling from the front
 pub filled_length : (n v : ℕ) (l : List ℕ) → n ≤ length l → length (filled n v l) ≡ length l
 unfolding filled
 filled_length n v l h = omega (arith, length-append (replicate n v) (drop n l), length-replicate n v, length-drop n l)

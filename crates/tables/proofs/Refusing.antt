@@ -7,18 +7,21 @@ use mathlib.Core.Option.{Option, some, none}
 use Prim.Native.Nat.{ℕ, ◌<◌, ◌≤◌}
 use native.Mathlib.Omega.{arith}
 use lib.Dec.{leb, ltb, eqb}
-use borrow.Author.Tests.{eqb-false, ltb-false, not-false}
-use lib.ListN.{length, get_or}
+use borrow.Author.Tests.{leb-false, eqb-false, ltb-false, not-false}
+use lib.ListN.{get_or}
 use Rattle.gid.specs.declared.Edge.{Edge}
 use Rattle.gid.specs.declared.Update.{Update}
 use Rattle.gid.specs.declared.Update.TheVariants.{Step, Terminal, Close}
 use Rattle.gid.specs.Refusals.{Given, Rule, first, lent, sent, refusal, max_states, max_steps, max_key}
+use Rattle.std.specs.Prelude.{Result, Ok, Err}
 use Rattle.tables.specs.declared.Graph.{Graph}
-use Rattle.gid.specs.Outcomes.{refused, accepted as gives}
+use Rattle.tables.specs.declared.refusal.Refusal.{Refusal}
+use Rattle.tables.specs.declared.refusal.Refusal.TheVariants.{BadStates, BadLimit, ShortTable, ExcessSteps, OutOfRange, ClosedSource, ListFull, BadKey, BadNames, Malformed, TooManyLines, BadCount, ShortBuffer}
+use Rattle.tables.specs.Numbers.{number_of}
 use Rattle.tables.specs.Tables.{Tables, visited_length, long_enough_by, long_enough}
 use Rattle.tables.specs.Marks.{has_closed}
 use Rattle.tables.specs.Listing.{listed_on}
-use Rattle.tables.specs.Refused.{is_full, given, refusal_by, refusal_on, none_listed, is_again, lent_rules, number, lent_number, sent_number, place_number, status_rules, status_answer}
+use Rattle.tables.specs.Refused.{code, in_range, is_full, given, refusal_by, refusal_on, none_listed, is_again, lent_rules, number, lent_number, sent_number, place_number}
 
 -- No rule of the list has the number 0.
 abbrev pub Positive : List Rule → Type 0
@@ -154,23 +157,29 @@ lent_leaves g long e =
       room = ltb-false g.limit g.steps p.1.1.1.0;
     }
 
-module _ (g : Graph) (status : List ℕ) (s : ℕ) where
-  pub status_refused : (k : ℕ) → lent_number g (leb g.n (length status)) ≡ k → (k ≡ 0 → ⊥) → refused k ≡ status_answer g status s
-  unfolding status_answer
-  status_refused k e n =
-      rw (first_some (lent_rules g (leb g.n (length status))) (record { applies = leb g.n s; number = 5 } ∷ []) k (lent_refuses g (leb g.n (length status)) k e n))
+-- A state that passes the test 5 is one of the first n.
+pub in_range_leaves : (g : Graph) (s : ℕ) → code (in_range g s) ≡ 0 → s < g.n
+in_range_leaves g s e = leb-false g.n s (at (leb g.n s) e)
+  where
+    at : (b : Bool) → code (cond {A = Result (Unit {0}) Refusal} b (Err OutOfRange) (Ok tt)) ≡ 0 → b ≡ false
+    at true z = absurd (let y : ◌≡◌ {A = ℕ} 5 0 = z in omega arith)
+    at false z = refl
 
-  module _ (e : lent_number g (leb g.n (length status)) ≡ 0) where
-    passes : first (status_rules g status s) ≡ first (record { applies = leb g.n s; number = 5 } ∷ [])
-    passes = first_none (lent_rules g (leb g.n (length status))) (record { applies = leb g.n s; number = 5 } ∷ []) (lent_passes g (leb g.n (length status)) e)
-
-    pub status_range : leb g.n s ≡ true → refused 5 ≡ status_answer g status s
-    unfolding status_answer
-    status_range t = rw (passes, t)
-
-    pub status_byte : leb g.n s ≡ false → gives (get_or status s 0) ≡ status_answer g status s
-    unfolding status_answer
-    status_byte t = rw (passes, t)
+-- No refusal has the number 0.
+pub number_positive : (r : Refusal) → number_of r ≡ 0 → ⊥
+number_positive BadStates e = omega arith
+number_positive BadLimit e = omega arith
+number_positive ShortTable e = omega arith
+number_positive ExcessSteps e = omega arith
+number_positive OutOfRange e = omega arith
+number_positive ClosedSource e = omega arith
+number_positive ListFull e = omega arith
+number_positive BadKey e = omega arith
+number_positive BadNames e = omega arith
+number_positive Malformed e = omega arith
+number_positive TooManyLines e = omega arith
+number_positive BadCount e = omega arith
+number_positive ShortBuffer e = omega arith
 
 abbrev nine : Bool → ℕ
 nine b = cond b 9 0

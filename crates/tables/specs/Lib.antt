@@ -2,6 +2,7 @@
 pub mod Tables
 pub mod Keeping
 pub mod Numbers
+pub mod Lending
 pub mod Marks
 pub mod Bits
 pub mod Visits

@@ -1,6 +1,6 @@
 -- Which number a call gets on the tables that it is lent: gid's refusals, with what they turn on read from the tables.
 -- Assumes nothing.
-use Rattle.std.specs.Prelude.{Bool, true, false, cond, List, [], ◌∷◌, ◌++◌, ℕ, leb, eqb, length, get_or}
+use Rattle.std.specs.Prelude.{Bool, true, false, cond, List, [], ◌∷◌, ◌++◌, ℕ, leb, eqb, length, get_or, Result, Ok, Err}
 use Rattle.std.proofs.Math.Option.{Option, some, none}
 use Rattle.gid.specs.declared.Edge.{Edge}
 use Rattle.gid.specs.declared.Update.{Update}
@@ -8,8 +8,9 @@ use Rattle.gid.specs.declared.Update.TheVariants.{Step, Terminal, Close}
 use Rattle.gid.specs.Refusals.{Given, Rule, first, lent, sent, refusal}
 use Rattle.gid.specs.Outcomes.{Outcome, refused, accepted, by_number}
 use Rattle.tables.specs.declared.Graph.{Graph}
-use Rattle.tables.specs.declared.Status.{Status}
-use Rattle.tables.specs.declared.Status.TheVariants.{Byte, Refused}
+use Rattle.tables.specs.declared.refusal.Refusal.{Refusal}
+use Rattle.tables.specs.declared.refusal.Refusal.TheVariants.{OutOfRange, ClosedSource}
+use Rattle.tables.specs.Numbers.{number_of}
 use Rattle.tables.specs.Tables.{Tables, visited_length, long_enough_by, nodes_of}
 use Rattle.tables.specs.Marks.{has_closed}
 use Rattle.tables.specs.Listing.{listed_on}
@@ -57,6 +58,18 @@ abbrev pub number : Option ℕ → ℕ
 number none = 0
 number (some k) = k
 
+-- What a test answers, as such a number;
+abbrev pub code : {A : Type 0} → Result A Refusal → ℕ
+code (Ok a) = 0
+code (Err r) = number_of r
+
+-- and the answers of the tests 5 and 6 by themselves.
+abbrev pub in_range : Graph → ℕ → Result (Unit {0}) Refusal
+in_range g s = cond (leb g.n s) (Err OutOfRange) (Ok tt)
+
+abbrev pub unclosed : ℕ → Result (Unit {0}) Refusal
+unclosed m = cond (has_closed m) (Err ClosedSource) (Ok tt)
+
 -- The tests 1 to 4, the tests 5, 14 and 6, which are those behind them where a place is free, and the test 9 by themselves.
 unfoldable pub lent_number : Graph → Bool → ℕ
 lent_number g long = number (first (lent_rules g long))
@@ -74,9 +87,9 @@ abbrev pub status_rules : Graph → List ℕ → ℕ → List Rule
 status_rules g status s = lent_rules g (leb (nodes_of g) (length status)) ++ (record { applies = leb g.n s; number = 5 } ∷ [])
 
 -- Document 01's number and value for each answer of the status question.
-abbrev pub status_outcome : Status → Outcome ℕ
-status_outcome (Byte b) = accepted b
-status_outcome (Refused k) = refused k
+abbrev pub status_outcome : Result ℕ Refusal → Outcome ℕ
+status_outcome (Ok b) = accepted b
+status_outcome (Err r) = refused (number_of r)
 
 unfoldable pub status_answer : Graph → List ℕ → ℕ → Outcome ℕ
 status_answer g status s = by_number (first (status_rules g status s)) (get_or status s 0)

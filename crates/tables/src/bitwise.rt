@@ -2,6 +2,7 @@
 ghost use Rattle.std.specs.Prelude.{◌≡◌, ◌<◌};
 ghost use Rattle.tables.specs.Bits.{has_bit, with_bit, without_bit};
 
+#[tactic(auto, unfolding(crate::specs::Bits::has_bit))]
 pub fn has_bit(entry: u16, k: u8) -> bool
     requires { k < 16 }
     ensures { result ≡ has_bit k entry }

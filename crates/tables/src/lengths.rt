@@ -1,5 +1,5 @@
 // The lengths of the tables that an update is lent, and whether they are enough.
-ghost use Rattle.std.specs.Prelude.{◌≡◌, ◌&&◌};
+ghost use Rattle.std.specs.Prelude.{◌≡◌};
 ghost use Rattle.tables.specs.Tables.{enough, needs, check_needs};
 
 use super::visits::visited_len;
@@ -29,30 +29,24 @@ impl Lengths {
     pub fn enough(self, n: usize, nodes: usize, limit: usize) -> bool
         ensures { result ≡ enough (needs n nodes limit self) }
     {
-        both(n <= self.news, self.enough_to_check(n, nodes, limit))
+        n <= self.news && self.enough_to_check(n, nodes, limit)
     }
 
     // The same but for the news list, which a table check is not lent.
     pub fn enough_to_check(self, n: usize, nodes: usize, limit: usize) -> bool
         ensures { result ≡ enough (check_needs n nodes limit self) }
     {
-        let rest = both(limit <= self.out_next, true);
-        let rest = both(limit <= self.in_next, rest);
-        let rest = both(visited_len(nodes) <= self.visited, rest);
-        let rest = both(nodes <= self.queue, rest);
-        let rest = both(nodes <= self.out_head, rest);
-        let rest = both(nodes <= self.in_head, rest);
-        let rest = both(nodes <= self.successor, rest);
-        let rest = both(limit <= self.key, rest);
-        let rest = both(limit <= self.to, rest);
-        let rest = both(limit <= self.from, rest);
-        let rest = both(n <= self.marks, rest);
-        both(nodes <= self.status, rest)
+        nodes <= self.status
+            && n <= self.marks
+            && limit <= self.from
+            && limit <= self.to
+            && limit <= self.key
+            && nodes <= self.successor
+            && nodes <= self.in_head
+            && nodes <= self.out_head
+            && nodes <= self.queue
+            && visited_len(nodes) <= self.visited
+            && limit <= self.in_next
+            && limit <= self.out_next
     }
-}
-
-fn both(a: bool, b: bool) -> bool
-    ensures { result ≡ (a && b) }
-{
-    if a { b } else { false }
 }

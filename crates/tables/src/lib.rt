@@ -1,8 +1,8 @@
 // What the engine is handed, and what it refuses: the state value, the caller's tables, the numbers 1 to 9 and 14, the mark bits, and the status question.
 #![tactic(auto)]
 
-ghost use Rattle.std.specs.Prelude.{◌≡◌, List, ℕ, ◌≤◌, ◌<◌, length};
-ghost use Rattle.tables.specs.Refused.{is_full, lent_number, sent_number, place_number, status_outcome, status_answer};
+ghost use Rattle.std.specs.Prelude.{◌≡◌, ◌≤◌, ◌<◌, length};
+ghost use Rattle.tables.specs.Refused.{is_full, code, in_range, unclosed, lent_number, sent_number, place_number, status_outcome, status_answer};
 ghost use Rattle.gid.specs.Updates.{source};
 ghost use Rattle.gid.specs.Histories.{step_of};
 ghost use Rattle.tables.specs.Tables.{nodes_of};
@@ -12,14 +12,18 @@ ghost use Rattle.tables.specs.Listing.{graph_after};
 mod bitwise;
 mod entries;
 mod lengths;
+mod lent;
 mod marks;
+mod refusal;
 mod visits;
 
 pub use bitwise::{has_bit, with_bit};
-pub use entries::{fill, fill_bytes, least, status_of, wide};
+pub use entries::status_of;
 use gid::{Edge, Update};
 pub use lengths::Lengths;
-pub use marks::{has_closed, has_named, has_terminal, with_closed, with_named, with_terminal};
+pub use lent::LentTables;
+pub use marks::Mark;
+pub use refusal::Refusal;
 pub use visits::{clear_visited, is_visited, set_visited, skip_unvisited, visited_len};
 
 // "There are n states, numbered 0 to n−1, with n from 1 to 2,048."
@@ -44,23 +48,6 @@ pub const LIVE: u8 = 3;
 
 pub const DEAD: u8 = 4;
 
-// "Numbers by who causes them": the refusals of the caller that lends,
-pub const BAD_STATES: u8 = 1;
-
-pub const BAD_LIMIT: u8 = 2;
-
-pub const SHORT_TABLE: u8 = 3;
-
-pub const EXCESS_STEPS: u8 = 4;
-// and of the explorer that sends.
-pub const OUT_OF_RANGE: u8 = 5;
-
-pub const BAD_KEY: u8 = 14;
-
-pub const CLOSED_SOURCE: u8 = 6;
-
-pub const LIST_FULL: u8 = 9;
-
 // The small state value of document 01: it goes into each update and comes back.
 #[derive(Clone, Copy)]
 pub struct Graph {
@@ -72,37 +59,25 @@ pub struct Graph {
     pub steps: usize,
 }
 
-// What the status question answers: the state's byte, or the number of a refusal.
-#[derive(Clone, Copy)]
-pub enum Status {
-    Byte(u8),
-    Refused(u8),
-}
-
 impl Graph {
-    // The number of the first of the tests 1 to 4 that applies, or 0. `long`: each table that the call is lent is long enough.
-    pub fn lent(self, long: bool) -> u8
-        ensures { result ≡ lent_number self long }
+    // The first of the tests 1 to 4 that applies. `long`: each table that the call is lent is long enough.
+    #[tactic(auto, unfolding(crate::specs::Refused::lent_number))]
+    pub fn lent(self, long: bool) -> Result<(), Refusal>
+        ensures { code result ≡ lent_number self long }
     {
-        if self.n == 0 {
-            return BAD_STATES;
+        if self.n == 0 || MAX_STATES < self.n {
+            return Err(Refusal::BadStates);
         }
-        if MAX_STATES < self.n {
-            return BAD_STATES;
+        if self.limit == 0 || MAX_STEPS < self.limit {
+            return Err(Refusal::BadLimit);
         }
-        if self.limit == 0 {
-            return BAD_LIMIT;
+        if !long {
+            return Err(Refusal::ShortTable);
         }
-        if MAX_STEPS < self.limit {
-            return BAD_LIMIT;
+        if self.limit < self.steps {
+            return Err(Refusal::ExcessSteps);
         }
-        if long {
-            if self.limit < self.steps {
-                return EXCESS_STEPS;
-            }
-            return 0;
-        }
-        SHORT_TABLE
+        Ok(())
     }
 
     // The nodes of a search: one for each state.
@@ -119,59 +94,54 @@ impl Graph {
         self.steps == self.limit
     }
 
-    // The number of the first of the tests 5, 14 and 6 that applies to an update, or 0.
-    pub fn sent(self, update: Update, marks: &[u8]) -> u8
+    // The first of the tests 5, 14 and 6 that applies to an update. No mark turns a close away.
+    #[tactic(auto, unfolding(crate::specs::Refused::sent_number))]
+    pub fn sent(self, update: Update, marks: &[u8]) -> Result<(), Refusal>
         requires { self.n ≤ length marks.now }
-        ensures { result ≡ sent_number self marks.now update }
+        ensures { code result ≡ sent_number self marks.now update }
     {
         match update {
             Update::Step { edge } => self.sent_step(edge, marks),
-            Update::Terminal { state } => self.sent_terminal(state, marks),
-            Update::Close { state } => self.sent_close(state),
+            Update::Terminal { state } => {
+                self.in_range(state)?;
+                unclosed(marks[state])
+            }
+            Update::Close { state } => self.in_range(state),
         }
     }
 
-    fn sent_step(self, edge: Edge, marks: &[u8]) -> u8
+    #[tactic(auto, unfolding(crate::specs::Refused::sent_number))]
+    fn sent_step(self, edge: Edge, marks: &[u8]) -> Result<(), Refusal>
         requires { self.n ≤ length marks.now }
-        ensures { result ≡ sent_number self marks.now (Update.Step edge) }
+        ensures { code result ≡ sent_number self marks.now (Update.Step edge) }
     {
-        let from = edge.from;
-        if self.n <= from {
-            return OUT_OF_RANGE;
-        }
-        if self.n <= edge.to {
-            return OUT_OF_RANGE;
-        }
+        self.in_range(edge.from)?;
+        self.in_range(edge.to)?;
         if MAX_KEY < edge.key {
-            return BAD_KEY;
+            return Err(Refusal::BadKey);
         }
-        if has_closed(marks[from]) {
-            return CLOSED_SOURCE;
-        }
-        0
+        unclosed(marks[edge.from])
     }
 
-    fn sent_terminal(self, state: usize, marks: &[u8]) -> u8
-        requires { self.n ≤ length marks.now }
-        ensures { result ≡ sent_number self marks.now (Update.Terminal state) }
+    // Test 5, of a state.
+    fn in_range(self, state: usize) -> Result<(), Refusal>
+        ensures { result ≡ in_range self state }
     {
         if self.n <= state {
-            return OUT_OF_RANGE;
+            return Err(Refusal::OutOfRange);
         }
-        if has_closed(marks[state]) {
-            return CLOSED_SOURCE;
-        }
-        0
+        Ok(())
     }
 
-    // No mark turns a close away.
-    fn sent_close(self, state: usize) -> u8
-        ensures { (marks : List ℕ) → result ≡ sent_number self marks (Update.Close state) }
+    // Test 9, of an update that is no repeat.
+    #[tactic(auto, unfolding(crate::specs::Refused::place_number))]
+    pub fn has_place(self, update: Update) -> Result<(), Refusal>
+        ensures { code result ≡ place_number (is_full self) update }
     {
-        if self.n <= state {
-            return OUT_OF_RANGE;
+        match update {
+            Update::Step { .. } if self.is_full() => Err(Refusal::ListFull),
+            _ => Ok(()),
         }
-        0
     }
 
     // The state value after an update that is no repeat.
@@ -179,26 +149,32 @@ impl Graph {
         requires { self.steps < 65536 }
         ensures { result ≡ graph_after self (step_of update) }
     {
+        let places = usize::from(matches!(update, Update::Step { .. }));
         Graph {
-            n: self.n,
-            limit: self.limit,
-            steps: self.steps + places(update),
+            steps: self.steps + places,
+            ..self
         }
     }
 
     // The status question: the tests 1 to 5, then the state's byte.
-    pub fn status(self, status: &[u8], state: usize) -> Status
+    #[tactic(auto, unfolding(crate::specs::Refused::status_answer, crate::specs::Refused::lent_number))]
+    pub fn status(self, status: &[u8], state: usize) -> Result<u8, Refusal>
         ensures { status_outcome result ≡ status_answer self status.now state }
     {
-        let refused = self.lent(self.nodes() <= status.len());
-        if refused != 0 {
-            return Status::Refused(refused);
-        }
-        if self.n <= state {
-            return Status::Refused(OUT_OF_RANGE);
-        }
-        Status::Byte(status[state])
+        self.lent(self.nodes() <= status.len())?;
+        self.in_range(state)?;
+        Ok(status[state])
     }
+}
+
+// Test 6, of a state's marks.
+fn unclosed(marks: u8) -> Result<(), Refusal>
+    ensures { result ≡ unclosed marks }
+{
+    if Mark::Closed.is_set(marks) {
+        return Err(Refusal::ClosedSource);
+    }
+    Ok(())
 }
 
 // Whether an update closes a state that is marked closed: it is accepted, and changes nothing.
@@ -207,35 +183,7 @@ pub fn closes_again(update: Update, marks: &[u8]) -> bool
     ensures { result ≡ closes_again update marks.now }
 {
     match update {
-        Update::Step { edge: _ } => false,
-        Update::Terminal { state: _ } => false,
-        Update::Close { state } => has_closed(marks[state]),
-    }
-}
-
-// The number 9 where an update is a step and the list is full, else 0.
-pub fn place_number(full: bool, update: Update) -> u8
-    ensures { result ≡ place_number full update }
-{
-    match update {
-        Update::Step { edge: _ } => {
-            if full {
-                return LIST_FULL;
-            }
-            0
-        }
-        Update::Terminal { state: _ } => 0,
-        Update::Close { state: _ } => 0,
-    }
-}
-
-// How many places of the step list an update takes that is no repeat.
-fn places(update: Update) -> usize
-    ensures { (result ≡ length (step_of update)) × (result ≤ 1) }
-{
-    match update {
-        Update::Step { edge: _ } => 1,
-        Update::Terminal { state: _ } => 0,
-        Update::Close { state: _ } => 0,
+        Update::Close { state } => Mark::Closed.is_set(marks[state]),
+        _ => false,
     }
 }

@@ -6,12 +6,14 @@ ghost use Rattle.tables.specs.Visits.{HasMark, marked, mark, unmark, NoneBetween
 use super::bitwise::{has_bit, with_bit, without_bit};
 
 // How many entries the marks of some nodes take.
+#[tactic(auto, unfolding(crate::specs::Tables::visited_length))]
 pub fn visited_len(nodes: usize) -> usize
     ensures { result ≡ visited_length nodes }
 {
     nodes / 16 + (nodes % 16 + 15) / 16
 }
 
+#[tactic(auto, unfolding(crate::specs::Visits::marked, crate::specs::Tables::visited_length))]
 pub fn is_visited(visited: &[u16], s: usize) -> bool
     requires { HasMark visited.now s }
     ensures { result ≡ marked visited.now s }
@@ -19,6 +21,7 @@ pub fn is_visited(visited: &[u16], s: usize) -> bool
     has_bit(visited[s / 16], bit_of(s))
 }
 
+#[tactic(auto, unfolding(crate::specs::Visits::mark, crate::specs::Tables::visited_length))]
 pub fn set_visited(visited: &mut [u16], s: usize)
     requires { HasMark visited.old s }
     ensures { visited.new ≡ mark visited.old s }
@@ -26,6 +29,7 @@ pub fn set_visited(visited: &mut [u16], s: usize)
     visited[s / 16] = with_bit(visited[s / 16], bit_of(s));
 }
 
+#[tactic(auto, unfolding(crate::specs::Visits::unmark, crate::specs::Tables::visited_length))]
 pub fn clear_visited(visited: &mut [u16], s: usize)
     requires { HasMark visited.old s }
     ensures { visited.new ≡ unmark visited.old s }
@@ -34,6 +38,7 @@ pub fn clear_visited(visited: &mut [u16], s: usize)
 }
 
 // A node behind s, with none visited between: the next one or, where no mark is set in the entry of s, the first of the next entry.
+#[tactic(auto, using(crate::proofs::Marking::blank_between), unfolding(crate::specs::Tables::visited_length))]
 pub fn skip_unvisited(visited: &[u16], s: usize) -> usize
     requires { HasMark visited.now s × (s < 65536) }
     ensures { (s < result) × NoneBetween visited.now s result }

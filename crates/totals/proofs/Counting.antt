@@ -1,19 +1,18 @@
 -- The laws of the number of states that have a status.
 -- Assumes nothing.
-use mathlib.Core.Path.{◌≡◌, refl, ap}
+use mathlib.Core.Path.{◌≡◌, refl, sym, ◌∙◌, ap, subst}
 use mathlib.Core.Bool.{Bool, true, false, cond}
-use mathlib.Core.List.{List, [], ◌∷◌}
+use mathlib.Core.List.{List, [], ◌∷◌, ◌++◌, append_assoc, append-nil}
 use Prim.Native.Nat.{ℕ, zero, suc, ◌+◌, ◌-◌, ◌≤◌, ◌<◌}
 use native.Mathlib.Omega.{arith}
-use native.Mathlib.Decide.{dec_lt}
 use native.Mathlib.Numerals.{add-one}
+use Rattle.std.proofs.Common.{add-zero}
 use lib.Dec.{eqb}
-use lib.ListN.{length, get_or, length-append, get_or-eq_default}
+use lib.ListN.{length, get_or, take, length-append, get_or-append, get_or-eq_default}
+use Rattle.std.proofs.lemmas.List.{length-take, get_or-take, get_or-append-add, nil_from_length}
 use mir.Val.{bool_byte}
 use Rattle.gid.specs.News.{below}
 use Rattle.gid.proofs.News.{below_same}
-use Rattle.tables.specs.Numbers.{least}
-use Rattle.tables.proofs.Numbers.{lesser}
 use Rattle.totals.specs.declared.Totals.{Totals}
 use Rattle.totals.specs.Counting.{having, totals_below}
 use Rattle.totals.specs.Blocks.{Adds}
@@ -76,9 +75,6 @@ adds_few start i m f t l h a =
     let few : (k : ℕ) → having i f k ≤ having start f k + (i - start) = λ k. having_further start (i - start) i f k e in
     record { opens = omega (arith, few 1, a.opens); unknowns = omega (arith, few 2, a.unknowns); lives = omega (arith, few 3, a.lives); deads = omega (arith, few 4, a.deads) }
 
-pub adds_none : (start : ℕ) (f : ℕ → ℕ) → Adds start start f (record { «open» = 0; unknown = 0; live = 0; dead = 0 })
-adds_none start f = record { opens = omega arith; unknowns = omega arith; lives = omega arith; deads = omega arith }
-
 -- One state more.
 abbrev pub with_one : ℕ → Totals → Totals
 with_one y t =
@@ -128,25 +124,82 @@ adds_then a b c f t u p q =
       deads = omega (arith, p.deads, q.deads);
     }
 
--- What the states that a table has add are the totals of any number of states, for all further ones are past its end.
-pub adds_all : (n : ℕ) (l : List ℕ) (t : Totals) → Adds 0 (least n (length l)) (λ s. get_or l s 0) t → t ≡ totals_below n (λ s. get_or l s 0)
-adds_all n l t a i =
+-- Further states, of which d have the statuses that g has from its start on.
+having_shift : (a d : ℕ) (f g : ℕ → ℕ) (k : ℕ) → ((s : ℕ) → s < d → f (a + s) ≡ g s) → having (a + d) f k ≡ having a f k + having d g k
+having_shift a zero f g k e = rw (add-zero a) (omega (arith, none_below g k))
+having_shift a (suc d) f g k e =
+    let ih = having_shift a d f g k (λ s h. e s (omega arith)) in
+    let last = e d (omega arith) in
+    let z : a + suc d ≡ a + d + 1 = omega arith in
+    let y : suc d ≡ d + 1 = omega arith in
+    rw (z, y, having_more (a + d) f k, having_more d g k, last) (omega arith)
+
+having_same : (n : ℕ) (f g : ℕ → ℕ) (k : ℕ) → ((s : ℕ) → s < n → f s ≡ g s) → having n f k ≡ having n g k
+having_same n f g k e = ap length (below_same n (λ s. eqb (f s) k) (λ s. eqb (g s) k) (λ s h. ap (λ (x : ℕ). eqb x k) (e s h)))
+
+-- What the states of two blocks of a table add, one behind the other.
+pub adds_append : (a b : List ℕ) (t u : Totals) → Adds 0 (length a) (λ s. get_or a s 0) t → Adds 0 (length b) (λ s. get_or b s 0) u → Adds 0 (length (a ++ b)) (λ s. get_or (a ++ b) s 0) (plus t u)
+adds_append a b t u p q = rw (length-append a b) (adds_then 0 (length a) (length a + length b) f t u front back)
+  where
+    f : ℕ → ℕ
+    f s = get_or (a ++ b) s 0
+
+    first : (k x : ℕ) → having (length a) (λ s. get_or a s 0) k ≡ having 0 (λ s. get_or a s 0) k + x → having (length a) f k ≡ having 0 f k + x
+    first k x e = omega (arith, having_same (length a) f (λ s. get_or a s 0) k (λ s h. get_or-append a b 0 s h), none_below f k, none_below (λ s. get_or a s 0) k)
+
+    then : (k y : ℕ) → having (length b) (λ s. get_or b s 0) k ≡ having 0 (λ s. get_or b s 0) k + y → having (length a + length b) f k ≡ having (length a) f k + y
+    then k y e = omega (arith, having_shift (length a) (length b) f (λ s. get_or b s 0) k (λ s h. get_or-append-add a b s 0), none_below (λ s. get_or b s 0) k)
+
+    front : Adds 0 (length a) f t
+    front = record { opens = first 1 t.«open» p.opens; unknowns = first 2 t.unknown p.unknowns; lives = first 3 t.live p.lives; deads = first 4 t.dead p.deads }
+
+    back : Adds (length a) (length a + length b) f u
+    back = record { opens = then 1 u.«open» q.opens; unknowns = then 2 u.unknown q.unknowns; lives = then 3 u.live q.lives; deads = then 4 u.dead q.deads }
+
+-- What the states of a table passed so far add, of which the rest is left.
+pub record Passed (all rest : List ℕ) (t : Totals) : Type 0 where
+  pub done : List ℕ
+  pub parts : all ≡ done ++ rest
+  pub adds : Adds 0 (length done) (λ s. get_or done s 0) t
+
+pub passed_block : (all rest block rest' : List ℕ) (t u : Totals) → Passed all rest t → rest ≡ block ++ rest' → Adds 0 (length block) (λ s. get_or block s 0) u → Passed all rest' (plus t u)
+passed_block all rest block rest' t u p e a =
     record {
-      «open» = each 1 refl t.«open» a.opens i;
-      unknown = each 2 refl t.unknown a.unknowns i;
-      live = each 3 refl t.live a.lives i;
-      dead = each 4 refl t.dead a.deads i;
+      done = p.done ++ block;
+      parts = p.parts ∙ ap (λ (l : List ℕ). p.done ++ l) e ∙ sym (append_assoc p.done block rest');
+      adds = adds_append p.done block t u p.adds a;
+    }
+
+-- None is above the number of states asked for.
+pub block_few : (n : ℕ) (l rest block rest' : List ℕ) (t u : Totals) → Passed (take n l) rest t → rest ≡ block ++ rest' → Adds 0 (length block) (λ s. get_or block s 0) u → Few n (plus t u)
+block_few n l rest block rest' t u p e a =
+    let q = passed_block (take n l) rest block rest' t u p e a in
+    adds_few 0 (length q.done) n (λ s. get_or q.done s 0) (plus t u) (omega arith) (omega (arith, ap length q.parts, length-append q.done rest', length-take n l)) q.adds
+
+-- What the states of the first entries of a table add are the totals of that many states, for all further ones are past its end.
+pub passed_all : (n : ℕ) (l rest : List ℕ) (t : Totals) → length rest ≡ 0 → Passed (take n l) rest t → t ≡ totals_below n (λ s. get_or l s 0)
+passed_all n l rest t z p i =
+    record {
+      «open» = each 1 refl t.«open» all.opens i;
+      unknown = each 2 refl t.unknown all.unknowns i;
+      live = each 3 refl t.live all.lives i;
+      dead = each 4 refl t.dead all.deads i;
     }
   where
     f : ℕ → ℕ
-    f s = get_or l s 0
+    f s = get_or (take n l) s 0
 
-    m : ℕ
-    m = least n (length l)
+    all : Adds 0 (length (take n l)) f t
+    all =
+        let e : take n l ≡ p.done = p.parts ∙ ap (λ (r : List ℕ). p.done ++ r) (nil_from_length rest z) ∙ append-nil p.done in
+        subst (λ (d : List ℕ). Adds 0 (length d) (λ s. get_or d s 0) t) (sym e) p.adds
 
-    past : (k : ℕ) → eqb 0 k ≡ false → Dec (m < n) → having n f k ≡ having m f k
-    past k z (yes p) = let h = lesser n (length l) in having_past m (n - m) n l k (omega (arith, h.left)) (h.cut p) z
-    past k z (no p) = let w : m ≡ n = omega (arith, (lesser n (length l)).left) in rw w refl
-
-    each : (k : ℕ) → eqb 0 k ≡ false → (x : ℕ) → having m f k ≡ having 0 f k + x → x ≡ having n f k
-    each k z x p = omega (arith, past k z (dec_lt m n), none_below f k)
+    each : (k : ℕ) → eqb 0 k ≡ false → (x : ℕ) → having (length (take n l)) f k ≡ having 0 f k + x → x ≡ having n (λ s. get_or l s 0) k
+    each k q x a =
+        let h : length (take n l) ≤ n = omega (arith, length-take n l) in
+        omega (
+          arith,
+          having_past (length (take n l)) (n - length (take n l)) n (take n l) k (omega arith) (omega arith) q,
+          having_same n f (λ s. get_or l s 0) k (λ s h. get_or-take n l s 0 h),
+          none_below f k,
+        )

@@ -7,7 +7,8 @@ use Prim.Native.Nat.{ℕ, zero, suc, ◌+◌, ◌/◌, ◌≤◌, ◌<◌}
 use native.Mathlib.Omega.{arith}
 use native.Mathlib.Numerals.{add-one}
 use native.Mathlib.Decide.{ℕ_discrete}
-use lib.ListN.{length, length-append}
+use lib.ListN.{length, take, length-append}
+use Rattle.std.proofs.lemmas.List.{length-take-le, get_or-take}
 use Rattle.gid.specs.declared.Edge.{Edge}
 use Rattle.gid.specs.declared.Update.{Update}
 use Rattle.gid.specs.declared.Update.TheVariants.{Step, Terminal, Close}
@@ -17,8 +18,9 @@ use Rattle.record.proofs.Decimals.{decimal_digit, five_digits as most}
 use Rattle.record.proofs.Writing.{room_more, step_length, mark_length}
 use Rattle.writer.specs.declared.marking.Mark.{Mark}
 use Rattle.writer.specs.declared.marking.Mark.TheVariants.{Terminal as ForTerminal, Close as ForClose}
-use Rattle.writer.specs.Order.{has_mark, marking, in_order, marked_lines, step_lines, written_updates, line_bytes, bytes_of, names_bytes, head_bytes, record_of}
-use Rattle.writer.specs.Sizing.{mark_line}
+use Rattle.writer.specs.Order.{has_mark, marking, in_order, is_marked, marked_lines, step_at, step_lines, written_updates, line_bytes, bytes_of, names_bytes, head_bytes, record_of}
+use Rattle.writer.specs.declared.source.Source.{Source}
+use Rattle.writer.specs.Sizing.{mark_line, listed_lines, source_record}
 
 pub one_digit : (v : ℕ) → v < 10 → length (decimal v) ≡ 1
 one_digit v h = rw (decimal_digit v h)
@@ -126,3 +128,29 @@ record_size n m marks from to key =
     let c = bytes_of (step_lines m from to key) in
     let d = bytes_of (marked_lines ForClose n marks) in
     omega (arith, ap length (parts n m marks from to key), length-append ((a ++ b) ++ c) d, length-append (a ++ b) c, length-append a b, head_size n)
+
+-- The first n lines turn on what stands below n alone.
+order_same : (n : ℕ) (test test' : ℕ → Bool) (update update' : ℕ → Update) → ((i : ℕ) → i < n → test i ≡ test' i) → ((i : ℕ) → i < n → update i ≡ update' i) → in_order n test update ≡ in_order n test' update'
+unfolding in_order
+order_same zero test test' update update' p q = refl
+order_same (suc n) test test' update update' p q =
+    rw (order_same n test test' update update' (λ i h. p i (omega arith)) (λ i h. q i (omega arith)), p n (omega arith), q n (omega arith))
+
+-- The record of the first n states and m steps of some tables is that of those entries alone.
+pub cut_record : (n m : ℕ) (marks from to key : List ℕ) → n ≤ length marks → m ≤ length from → record_of (length (take n marks)) (length (take m from)) (take n marks) (take m from) (take m to) (take m key) ≡ record_of n m marks from to key
+unfolding record_of written_updates
+cut_record n m marks from to key a b =
+    rw (
+      length-take-le n marks a,
+      length-take-le m from b,
+      order_same n (is_marked ForTerminal (take n marks)) (is_marked ForTerminal marks) (marking ForTerminal) (marking ForTerminal) (λ i h. ap (has_mark ForTerminal) (get_or-take n marks i 0 h)) (λ i h. refl),
+      order_same n (is_marked ForClose (take n marks)) (is_marked ForClose marks) (marking ForClose) (marking ForClose) (λ i h. ap (has_mark ForClose) (get_or-take n marks i 0 h)) (λ i h. refl),
+      order_same m (λ p. true) (λ p. true) (step_at (take m from) (take m to) (take m key)) (step_at from to key) (λ i h. refl) (λ i h. rw (get_or-take m from i 0 h, get_or-take m to i 0 h, get_or-take m key i 0 h)),
+    )
+
+-- The same of what a source has: the head, the lines of the terminal marks, of the steps and of the closes.
+pub source_parts : (s : Source) → source_record s ≡ ((head_bytes (length s.marks.now) ++ bytes_of (marked_lines ForTerminal (length s.marks.now) s.marks.now)) ++ bytes_of (listed_lines s)) ++ bytes_of (marked_lines ForClose (length s.marks.now) s.marks.now)
+source_parts s = parts (length s.marks.now) (length s.from.now) s.marks.now s.from.now s.to.now s.key.now
+
+pub source_size : (s : Source) → length (source_record s) ≡ length (head_bytes (length s.marks.now)) + length (bytes_of (marked_lines ForTerminal (length s.marks.now) s.marks.now)) + length (bytes_of (listed_lines s)) + length (bytes_of (marked_lines ForClose (length s.marks.now) s.marks.now))
+source_size s = omega (arith, head_size (length s.marks.now), record_size (length s.marks.now) (length s.from.now) s.marks.now s.from.now s.to.now s.key.now)

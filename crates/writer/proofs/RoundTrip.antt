@@ -15,7 +15,9 @@ use Rattle.gid.specs.Histories.{History, Has, following, listed}
 use Rattle.gid.specs.Statuses.{status}
 use Rattle.gid.specs.Outcomes.{accepted}
 use Rattle.gid.proofs.Paths.{Inside}
+use Rattle.std.specs.Prelude.{Result}
 use Rattle.tables.specs.declared.Graph.{Graph}
+use Rattle.tables.specs.declared.refusal.Refusal.{Refusal}
 use Rattle.tables.specs.Tables.{Tables}
 use Rattle.tables.specs.Fitting.{sources, targets, keys, marks_of, Consistent, Fits}
 use Rattle.tables.proofs.Keeping.{filled_at}
@@ -23,11 +25,10 @@ use Rattle.tables.proofs.Refusing.{Lent, lent_leaves}
 use Rattle.record.specs.declared.splitter.Item.{Item}
 use Rattle.record.specs.declared.splitter.Item.TheVariants.{States}
 use Rattle.record.specs.Items.{items}
-use Rattle.reader.specs.declared.ReadAnswer.{ReadAnswer}
+use Rattle.reader.specs.declared.RecordRead.{RecordRead}
 use Rattle.reader.specs.Opening.{reader_states, reader_graph, open_refusal}
 use Rattle.reader.specs.Replaying.{start_of, record_start, history_of, first_refusal}
 use Rattle.reader.specs.Reading.{Reads}
-use Rattle.writer.specs.declared.Written.{Written}
 use Rattle.writer.specs.Answering.{written_outcome, the_record, all_long, Writes}
 use Rattle.writer.specs.Rereading.{ReadBack}
 use Rattle.writer.proofs.Deciding.{ended}
@@ -79,7 +80,7 @@ module _ {h : History} {g : Graph} {t : Tables} (c : Consistent h g t) (l : Lent
   limits : (record_start g.limit bytes).limit ≡ g.limit
   limits = ap (λ (x : List Item). (start_of (reader_graph g.limit) x).limit) written
 
-  read_same : {t₀ t' : Tables} {r : ReadAnswer} → open_refusal g.limit t₀ ≡ none → Reads g.limit bytes t₀ t' r → ReadBack g t t' r
+  read_same : {t₀ t' : Tables} {r : Result RecordRead Refusal} → open_refusal g.limit t₀ ≡ none → Reads g.limit bytes t₀ t' r → ReadBack g t t' r
   read_same {t₀} {t'} {r} o q =
       let s = (q.stands o).fits in
       let e = read.1 in
@@ -101,7 +102,7 @@ module _ {h : History} {g : Graph} {t : Tables} (c : Consistent h g t) (l : Lent
       }
 
 -- What `write` wrote of tables that fit, from the starting place up to its answer, read by `reader::read` with the same limit into any tables that are long enough.
-pub read_back_same : (g : Graph) (t : Tables) → Fits g t → {buf buf' : List ℕ} {at end : ℕ} {w : Written} → Writes g t.marks t.from t.to t.key buf at buf' w → written_outcome w ≡ accepted end → {t₀ t' : Tables} {r : ReadAnswer} → open_refusal g.limit t₀ ≡ none → Reads g.limit (take (end - at) (drop at buf')) t₀ t' r → ReadBack g t t' r
+pub read_back_same : (g : Graph) (t : Tables) → Fits g t → {buf buf' : List ℕ} {at end : ℕ} {w : Result ℕ Refusal} → Writes g t.marks t.from t.to t.key buf at buf' w → written_outcome w ≡ accepted end → {t₀ t' : Tables} {r : Result RecordRead Refusal} → open_refusal g.limit t₀ ≡ none → Reads g.limit (take (end - at) (drop at buf')) t₀ t' r → ReadBack g t t' r
 read_back_same g t f w e o q =
     let d = ended w e in
     read_same f.2 (lent_leaves g (all_long g t.marks t.from t.to t.key) d.0) o (rw d.1 at q)

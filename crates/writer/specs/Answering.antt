@@ -1,20 +1,20 @@
 -- What the writer answers: "It tests 1 to 4, then 13", and then "returns the place after the last byte, and leaves all other bytes".
 -- Assumes nothing.
-use Rattle.std.specs.Prelude.{◌≡◌, Bool, ◌||◌, List, [], ◌∷◌, ◌++◌, ℕ, ◌+◌, ◌-◌, ltb, length, take, drop}
+use Rattle.std.specs.Prelude.{◌≡◌, Bool, ◌||◌, List, [], ◌∷◌, ◌++◌, ℕ, ◌+◌, ◌-◌, ltb, length, take, drop, Result, Ok, Err}
 use Rattle.std.proofs.Math.Option.{Option, some, none}
 use Rattle.gid.specs.Refusals.{Rule, first}
 use Rattle.gid.specs.Outcomes.{Outcome, refused, accepted, by_number}
 use Rattle.tables.specs.declared.Graph.{Graph}
+use Rattle.tables.specs.declared.refusal.Refusal.{Refusal}
+use Rattle.tables.specs.Numbers.{number_of}
 use Rattle.tables.specs.Tables.{Needed, enough}
 use Rattle.tables.specs.Refused.{lent_rules}
-use Rattle.writer.specs.declared.Written.{Written}
-use Rattle.writer.specs.declared.Written.TheVariants.{End, Refused}
 use Rattle.writer.specs.Order.{record_of}
 
 -- Document 01's number and value for each answer: the place after the last byte.
-abbrev pub written_outcome : Written → Outcome ℕ
-written_outcome (End place) = accepted place
-written_outcome (Refused k) = refused k
+abbrev pub written_outcome : Result ℕ Refusal → Outcome ℕ
+written_outcome (Ok place) = accepted place
+written_outcome (Err r) = refused (number_of r)
 
 -- "Test 3 covers the tables that the call in hand is lent": the marks and the step list.
 abbrev pub writer_needs : Graph → (marks from to key : ℕ) → List Needed
@@ -50,6 +50,6 @@ module _ (g : Graph) (marks from to key : List ℕ) where
     buffer_after = or_filled (first write_rules)
 
 -- The answer and the buffer after the call. The tables are lent for reading alone.
-pub record Writes (g : Graph) (marks from to key buf : List ℕ) (at : ℕ) (buf' : List ℕ) (r : Written) : Type 0 where
+pub record Writes (g : Graph) (marks from to key buf : List ℕ) (at : ℕ) (buf' : List ℕ) (r : Result ℕ Refusal) : Type 0 where
   pub answer : written_outcome r ≡ write_answer g marks from to key buf at
   pub buffer : buf' ≡ buffer_after g marks from to key buf at

@@ -1,12 +1,13 @@
 -- What reading a written record comes to: "For fitting tables, reading that record with the same limit gives the same marks, steps and statuses, and unseen from n on." The keys are the same too (document 02, #101), and so is n (#107). proofs/RoundTrip.antt proves it (`read_back_same`).
 -- Assumes nothing.
-use Rattle.std.specs.Prelude.{◌≡◌, ℕ, ◌<◌, ◌≤◌, get_or, take}
+use Rattle.std.specs.Prelude.{◌≡◌, ℕ, ◌<◌, ◌≤◌, get_or, take, Result}
 use Rattle.std.proofs.Math.Option.{none}
 use Rattle.gid.specs.Statuses.{status_unseen}
 use Rattle.gid.specs.Outcomes.{accepted}
 use Rattle.tables.specs.declared.Graph.{Graph}
+use Rattle.tables.specs.declared.refusal.Refusal.{Refusal}
 use Rattle.tables.specs.Tables.{Tables}
-use Rattle.reader.specs.declared.ReadAnswer.{ReadAnswer}
+use Rattle.reader.specs.declared.RecordRead.{RecordRead}
 use Rattle.reader.specs.Opening.{reader_states}
 use Rattle.reader.specs.Reading.{read_outcome}
 
@@ -20,6 +21,6 @@ pub record SameTables (g : Graph) (t t' : Tables) : Type 0 where
   pub unseen : (s : ℕ) → g.n ≤ s → s < reader_states → (get_or t'.status s 0 ≡ status_unseen) × (get_or t'.marks s 0 ≡ 0)
 
 -- Every line is accepted, the state value has the same n and as many steps, and the tables are the same.
-pub record ReadBack (g : Graph) (t t' : Tables) (r : ReadAnswer) : Type 0 where
+pub record ReadBack (g : Graph) (t t' : Tables) (r : Result RecordRead Refusal) : Type 0 where
   pub answer : read_outcome r ≡ accepted (record { graph = record { n = g.n; limit = g.limit; steps = g.steps }; refusal = none })
   pub tables : SameTables g t t'

@@ -8,22 +8,15 @@ ghost use Rattle.writer.specs.Answering.{writer_needs, Writes};
 mod filling;
 mod marking;
 mod sizes;
+mod source;
 
 use filling::put_record;
+use record::TextBuffer;
 use sizes::record_size;
-use tables::Graph;
+use source::Source;
+use tables::{Graph, Refusal};
 
-// "13: the writer's buffer is too short from its starting place, or that place is past its end."
-pub const SHORT_BUFFER: u8 = 13;
-
-// The place after the last byte, or the number of a refusal.
-#[derive(Clone, Copy)]
-pub enum Written {
-    End(usize),
-    Refused(u8),
-}
-
-// "It tests 1 to 4, then 13": nothing is written before the tests. It changes no table.
+// "It tests 1 to 4, then 13": nothing is written before the tests. It changes no table. The answer is the place after the last byte.
 pub fn write(
     graph: Graph,
     marks: &[u8],
@@ -32,36 +25,27 @@ pub fn write(
     key: &[u8],
     buf: &mut [u8],
     at: usize,
-) -> Written
+) -> Result<usize, Refusal>
     ensures { Writes graph marks.now from.now to.now key.now buf.old at buf.new result }
 {
-    let refused = graph.lent(all_long(graph, marks.len(), from.len(), to.len(), key.len()));
-    if refused != 0 {
-        return Written::Refused(refused);
+    graph.lent(all_long(graph, marks.len(), from.len(), to.len(), key.len()))?;
+    let source = Source {
+        marks: &marks[..graph.n],
+        from: &from[..graph.steps],
+        to: &to[..graph.steps],
+        key: &key[..graph.steps],
+    };
+    if buf.len() < at || buf.len() - at < record_size(source) {
+        return Err(Refusal::ShortBuffer);
     }
-    let n = graph.n;
-    let m = graph.steps;
-    if buf.len() < at {
-        return Written::Refused(SHORT_BUFFER);
-    }
-    if buf.len() - at < record_size(n, m, marks, from, to, key) {
-        return Written::Refused(SHORT_BUFFER);
-    }
-    Written::End(put_record(buf, at, n, m, marks, from, to, key))
+    let mut text = TextBuffer { buf, end: at };
+    put_record(&mut text, source);
+    Ok(text.end)
 }
 
 // Whether the four tables are long enough.
 fn all_long(graph: Graph, marks: usize, from: usize, to: usize, key: usize) -> bool
     ensures { result ≡ enough (writer_needs graph marks from to key) }
 {
-    if marks < graph.n {
-        return false;
-    }
-    if from < graph.limit {
-        return false;
-    }
-    if to < graph.limit {
-        return false;
-    }
-    graph.limit <= key
+    graph.n <= marks && graph.limit <= from && graph.limit <= to && graph.limit <= key
 }

@@ -3,7 +3,6 @@ ghost use Rattle.std.specs.Prelude.{◌≡◌};
 ghost use Rattle.writer.specs.Order.{has_mark, marking};
 
 use gid::Update;
-use tables::{has_closed, has_terminal};
 
 // "uses only the marks 2 and 4"
 #[derive(Clone, Copy)]
@@ -12,22 +11,24 @@ pub enum Mark {
     Close,
 }
 
-// Whether a byte of the marks has the mark.
-pub fn has(mark: Mark, byte: u8) -> bool
-    ensures { result ≡ has_mark mark byte }
-{
-    match mark {
-        Mark::Terminal => has_terminal(byte),
-        Mark::Close => has_closed(byte),
+impl Mark {
+    // Whether a byte of the marks has it.
+    pub fn is_set(self, byte: u8) -> bool
+        ensures { result ≡ has_mark self byte }
+    {
+        match self {
+            Mark::Terminal => tables::Mark::Terminal.is_set(byte),
+            Mark::Close => tables::Mark::Closed.is_set(byte),
+        }
     }
-}
 
-// The update that puts the mark on a state.
-pub fn update_of(mark: Mark, state: usize) -> Update
-    ensures { result ≡ marking mark state }
-{
-    match mark {
-        Mark::Terminal => Update::Terminal { state },
-        Mark::Close => Update::Close { state },
+    // The update that puts it on a state.
+    pub fn update(self, state: usize) -> Update
+        ensures { result ≡ marking self state }
+    {
+        match self {
+            Mark::Terminal => Update::Terminal { state },
+            Mark::Close => Update::Close { state },
+        }
     }
 }

@@ -1,15 +1,20 @@
 -- `radvoinis_update` meets its contract.
 -- Assumes nothing.
-use mathlib.Core.Path.{sym, ◌∙◌, refl}
-use Rattle.capi.specs.Calls.{unknown, answered}
-use Rattle.capi.proofs.Few.{few_news}
+use Rattle.std.proofs.Common.{rules, arith, ◌≤◌, sym, ◌∙◌, refl}
+use Rattle.gid.specs.Refusals.{max_states}
+use Rattle.engine.specs.Answers.{news_count}
+use Rattle.capi.specs.Calls.{unknown}
+use Rattle.capi.proofs.Few.{few_news, answered_by}
 use Rattle.capi.proofs.radvoinis_update.Goals as goal
 
-pub answer_code-requires : goal.answer_code-requires
-answer_code-requires c = few_news _ c.update-done.ensures
+pub map-requires : goal.map-requires
+map-requires c = λ x e p q. let k : news_count c.update-answer.result ≤ max_states = few_news _ c.update-answer.ensures.promise in let few : x ≤ max_states = rw e at k in omega (arith, few)
 
-pub returns-in-Unknown : goal.returns-in-Unknown
-returns-in-Unknown c = rw (sym c.update_of.ensures ∙ c.in-Unknown.is) (unknown c.refused_kind.ensures refl)
+pub returns-in_default : goal.returns-in_default
+returns-in_default c = rw (sym c.update_of.ensures ∙ c.in_default.is) (unknown (rw c.lengths.ensures at c.refused_kind.ensures) c.code.ensures)
 
-pub returns-in-Known : goal.returns-in-Known
-returns-in-Known c = rw (sym c.update_of.ensures ∙ c.in-Known.is) (answered c.update-done.ensures refl c.answer_code.ensures)
+pub returns : goal.returns
+returns c =
+    rw (sym c.update_of.ensures ∙ c.in-Some.is)
+    (answered_by c.update-answer.new.tables c.update-answer.ensures.promise refl (search rules)
+    (search rules) (search rules) (search rules) (search rules) (search rules) (search rules) (search rules) (search rules) (search rules) (search rules) (search rules) (search rules) (search rules))

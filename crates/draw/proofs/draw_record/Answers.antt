@@ -15,6 +15,9 @@ room n = rw (length-replicate {A = ℕ} n 0) (omega arith)
 pub slice_bounds-draw_input-end-2 : goal.slice_bounds-draw_input-end-2
 slice_bounds-draw_input-end-2 g c = sym (length-replicate {A = ℕ} 557056 0)
 
-pub draw_input-requires : goal.draw_input-requires
+pub draw_input-requires-clause-room : goal.draw_input-requires-clause-room
+draw_input-requires-clause-room g c = room 557056
+
+pub draw_input-requires-clause-opens : goal.draw_input-requires-clause-opens
 unfolding visited_length
-draw_input-requires g c = (room 557056, refl)
+draw_input-requires-clause-opens g c = refl

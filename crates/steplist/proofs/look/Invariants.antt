@@ -1,13 +1,9 @@
--- `look` answers the first place before end. The loop's invariant: none of the places passed holds an equal step. The measure is the number of places left.
+-- `look` answers the first place before end. The loop's invariant: none of the places passed holds an equal step.
 -- Assumes nothing.
-use mathlib.Core.Path.{◌≡◌}
-use mathlib.Core.Option.{none}
-use Prim.Native.Nat.{◌≤◌, ◌-◌}
+use Rattle.std.proofs.Common.{◌≡◌}
+use Rattle.std.proofs.Math.Option.{none}
 use Rattle.tables.specs.Listing.{first_place}
 use Rattle.steplist.proofs.look.Given as goal
 
-abbrev pub invariant-loop-left : goal.invariant-loop-left
-invariant-loop-left l = (l.left ≤ l.end - l.start) × (first_place (l.end - l.left) l.from l.to l.key l.edge ≡ none)
-
-abbrev pub decreases-loop-left : goal.decreases-loop-left
-decreases-loop-left l = l.left
+abbrev pub invariant-loop-p : goal.invariant-loop-p
+invariant-loop-p l = first_place l.p l.steps.from.now l.steps.to.now l.steps.key.now l.edge ≡ none

@@ -1,12 +1,15 @@
--- `count` meets its contract. The loop's invariant: what the states of the blocks passed add. The measure is the number of states left.
+-- The loop's invariant: what the states of the blocks passed add.
 -- Assumes nothing.
-use Prim.Native.Nat.{◌-◌, ◌≤◌}
-use lib.ListN.{get_or}
-use Rattle.totals.specs.Blocks.{Adds}
+use mathlib.Core.Path.{◌≡◌}
+use lib.ListN.{take}
+use Rattle.std.specs.Slice.Iter.{chunks_rest, chunks_size}
+use Rattle.totals.specs.declared.TheConstants.{BLOCK}
+use Rattle.totals.proofs.Counting.{Passed}
 use Rattle.totals.proofs.count.Given as goal
 
-abbrev pub invariant-loop-start : goal.invariant-loop-start
-invariant-loop-start l = (l.start ≤ l.all) × Adds 0 l.start (λ s. get_or l.status s 0) (record { «open» = l.«open»; unknown = l.unknown; live = l.live; dead = l.dead })
-
-abbrev pub decreases-loop-start : goal.decreases-loop-start
-decreases-loop-start l = l.all - l.start
+abbrev pub invariant-loop-block : goal.invariant-loop-block
+invariant-loop-block l =
+    goal.iterator-loop-block.can_next l.block-iterator
+    × goal.iterator-loop-block.is_finite l.block-iterator
+    × (chunks_size l.block-iterator ≡ BLOCK)
+    × Passed (take l.n l.status) (chunks_rest l.block-iterator) (record { «open» = l.«open»; unknown = l.unknown; live = l.live; dead = l.dead })

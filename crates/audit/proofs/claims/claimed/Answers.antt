@@ -1,26 +1,24 @@
 -- `claimed` answers yes exactly where each state with the verdict is reached from a start, and leaves no state visited.
 -- Assumes nothing.
-use native.Mathlib.Omega.{arith}
-use Rattle.search.specs.Spreading.{chains, into}
+use Rattle.std.proofs.Common.{◌≤◌, length, arith}
+use Rattle.tables.specs.Tables.{visited_length}
+use Rattle.search.specs.Spreading.{allowed}
+use Rattle.audit.specs.Contents.{arcs_of}
+use Rattle.audit.proofs.Chaining.{filled_front}
 use Rattle.audit.proofs.Gathering.{answered}
 use Rattle.audit.proofs.claims.claimed.Goals as goal
 
-pub spread-requires : goal.spread-requires
-spread-requires c =
-    let g = c.gather-found.ensures in
-    record { queued = (c.requires.none_visited.1, g.queued); walkable = c.requires.walkable; n_in_bounds = (c.requires.n_in_bounds.0, c.requires.n_in_bounds.2, omega (arith, c.requires.n_in_bounds.3, g.queues.size), omega (arith, c.requires.n_in_bounds.4, g.visits.size)) }
-
-pub all_covered-all-requires : goal.all_covered-all-requires
-all_covered-all-requires c =
-    let p = c.requires.n_in_bounds in
-    (p.0, omega (arith, p.4, c.gather-found.ensures.visits.size, c.spread.ensures.visits.size))
-
-pub fill-requires : goal.fill-requires
-fill-requires c = omega (arith, c.requires.n_in_bounds.4, c.gather-found.ensures.visits.size, c.spread.ensures.visits.size, c.visited_len-entries.ensures)
+pub spread-requires-clause-tells : goal.spread-requires-clause-tells
+spread-requires-clause-tells g c =
+    let t = c.args.stored in
+    (allowed c.requires.tells.0 t.status.now t.successor.now, λ y i r h a. c.requires.tells.1 y i r (omega (arith, c.into.ensures.n)) a)
 
 pub returns : goal.returns
-returns c =
+returns g c = λ mode tells.
     let a = c.args in
-    let g = c.gather-found.ensures in
-    let d = c.spread.ensures in
-    answered {Arc = into (chains a.n a.steps a.from.now a.in_head.now a.in_next.now)} a.mode a.verdict a.status.now a.marks.now a.successor.now g d c.all_covered-all.ensures (omega (arith, c.requires.n_in_bounds.4, g.visits.size, d.visits.size)) c.visited_len-entries.ensures c.fill.ensures
+    let t = a.stored in
+    let i = c.into.ensures in
+    let gathered = c.gather-found.ensures in
+    let d = rw (i.n, i.steps, i.ends, i.head, i.next) at (c.spread.ensures (allowed mode t.status.now t.successor.now) (λ y j r h k. tells y j r (omega (arith, i.n)) k)) in
+    let long : visited_length t.n ≤ length c.spread.new.visited = omega (arith, c.requires, gathered.visits.size, d.visits.size) in
+    answered {Arc = arcs_of t} mode a.verdict t.status.now t.marks.now t.successor.now gathered d c.all_covered-all.ensures long c.visited_len.ensures (filled_front _ 0 _ (rw c.visited_len.ensures long) (c.fill.ensures.after (λ y h. h)))

@@ -1,11 +1,13 @@
--- `note_sources` notes the steps into v. The loop's invariant: exactly those met are noted, and no two of them are alike. The measure is where the walk stands.
+-- `note_sources` notes the steps into v. The loop's invariant: exactly those met are noted, and no two of them are alike.
 -- Assumes nothing.
-use Rattle.search.specs.Spreading.{chains}
+use Rattle.adjacency.specs.Adjacencies.{chains_of}
 use Rattle.audit.proofs.Differing.{Noting}
 use Rattle.audit.proofs.distinct.note_sources.Given as goal
 
-abbrev pub invariant-loop-at : goal.invariant-loop-at
-invariant-loop-at l = Noting l.base (chains l.n l.steps l.from l.in_head l.in_next) l.key l.v l.initial.seen l.seen l.at
-
-abbrev pub decreases-loop-at : goal.decreases-loop-at
-decreases-loop-at l = l.at
+abbrev pub invariant-loop-p : goal.invariant-loop-p
+invariant-loop-p l =
+    record {
+      can_next : (goal.iterator-loop-p).can_next l.p-iterator;
+      is_finite : (goal.iterator-loop-p).is_finite l.p-iterator;
+      noting : Noting l.base (chains_of l.arcs) l.key l.v l.initial.seen l.seen l.p-iterator;
+    }

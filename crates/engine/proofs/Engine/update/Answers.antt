@@ -1,119 +1,195 @@
 -- `Engine::update` keeps its promise: a refusal by one of the tests, an update that comes again, or one that is listed, marked and judged.
 -- Assumes nothing.
-use mathlib.Core.Path.{◌≡◌, sym, ap, ◌∙◌}
-use Prim.Native.Nat.{◌≤◌}
+use Rattle.std.proofs.Common.{rules, Err}
+use mathlib.Core.Path.{◌≡◌, refl, sym, ap, ◌∙◌}
+use mathlib.Core.Bool.{Bool}
+use Prim.Native.Nat.{ℕ}
 use native.Mathlib.Omega.{arith}
 use lib.ListN.{length}
+use Rattle.gid.specs.declared.Update.{Update}
 use Rattle.tables.specs.declared.Graph.{Graph}
-use Rattle.tables.specs.Tables.{Tables, tables_of, long_enough}
-use Rattle.tables.specs.Refused.{is_full, lent_number, place_number}
+use Rattle.tables.specs.declared.lengths.Lengths.{Lengths}
+use Rattle.tables.specs.Lending.{contents}
+use Rattle.tables.specs.Tables.{Tables, nodes_of, lengths, enough, needs, long_enough}
+use Rattle.tables.specs.Refused.{is_full, lent_number, sent_number, place_number}
 use Rattle.engine.specs.Done.{Room}
-use Rattle.engine.specs.Preparing.{Storable}
+use Rattle.engine.specs.Preparing.{InRange, Storable}
 use Rattle.engine.proofs.Acting.{in_range_wider}
 use Rattle.engine.proofs.Promising.{room_of, passed_of, storable_of, lookable, listable, markable, walkable, lent_kept, sent_kept, full_kept, again_kept, done_of, done_kept}
 use Rattle.engine.proofs.Engine.update.Goals as goal
-use Rattle.engine.proofs.Engine.update.Goals.{Else-lent-ne0, After-list-arg-7-1}
 
--- Where the tests 1 to 4 find nothing: the tables as they came, and that they are long enough.
-module _ (c : Else-lent-ne0) where
-  abbrev tables : Tables
-  tables =
-      let a = c.args in
-      tables_of a.status.now a.marks.now a.from.now a.to.now a.key.now a.successor.now a.news.now a.in_head.now a.out_head.now a.queue.now a.visited.now a.in_next.now a.out_next.now
+-- What the tests 1 to 4 answered, of the tables as they came.
+answered : (g : Graph) (t : Tables) {l : Lengths} {n : ℕ} {b : Bool} {k : ℕ} → l ≡ lengths t → n ≡ nodes_of g → b ≡ enough (needs g.n n g.limit l) → k ≡ lent_number g b → lent_number g (long_enough g t) ≡ k
+answered g t e f q z = sym (rw (q, e, f) at z)
 
-  passed : lent_number c.args.self.graph (long_enough c.args.self.graph tables) ≡ 0
-  passed = sym (rw (c.enough.ensures, c.nodes.ensures) at c.lent-lent.ensures) ∙ c.if-lent-ne0.false
+room : (g : Graph) (t : Tables) {l : Lengths} {n : ℕ} {b : Bool} → l ≡ lengths t → n ≡ nodes_of g → b ≡ enough (needs g.n n g.limit l) → 0 ≡ lent_number g b → Room g.n g.n g.limit g.steps t
+room g t e f q z = room_of g t (answered g t e f q z)
 
-  room : let g = c.args.self.graph in Room g.n g.n g.limit g.steps tables
-  room = room_of c.args.self.graph tables passed
+-- What the tests 5, 14 and 6 leave, and the test 9.
+ranged : (g : Graph) (t : Tables) (x : Update) → 0 ≡ sent_number g t.marks x → InRange g.n x
+ranged g t x s = (passed_of g t.marks x (sym s)).0
 
--- An update that does not come again, and has a place.
-module _ (c : After-list-arg-7-1) where
-  placed : place_number (is_full c.args.self.graph) c.args.update ≡ 0
-  placed = sym (rw c.is_full.ensures at c.place_number-full.ensures) ∙ c.if-full-ne0.false
+storable : (g : Graph) (t : Tables) (x : Update) → Room g.n g.n g.limit g.steps t → 0 ≡ sent_number g t.marks x → 0 ≡ place_number (is_full g) x → Storable g.n g.limit g.steps x
+storable g t x r s p = let q = passed_of g t.marks x (sym s) in storable_of g x r.steps q.0 q.1 (sym p)
 
-  storable : let g = c.args.self.graph in g.steps ≤ g.limit → Storable g.n g.limit g.steps c.args.update
-  storable few =
-      let r = passed_of c.args.self.graph c.args.marks.now c.args.update (sym c.sent-sent.ensures ∙ omega arith) in
-      storable_of c.args.self.graph c.args.update few r.0 r.1 placed
+pub returns-in_err-lent-clause-promise : goal.returns-in_err-lent-clause-promise
+returns-in_err-lent-clause-promise c =
+    let e : c.from_residual.result ≡ Err c.in_err-lent.field-0.0 = search rules in
+    rw e (lent_kept c.args.self.now.graph c.args.update (contents c.args.tables.now) c.in_err-lent.field-0.0 (answered _ _ c.lengths-lengths.ensures c.nodes.ensures c.enough.ensures c.in_err-lent.ensures))
 
-pub returns-then-lent-ne0 : goal.returns-then-lent-ne0
-returns-then-lent-ne0 c =
-    let a = c.args in
-    let t = tables_of a.status.now a.marks.now a.from.now a.to.now a.key.now a.successor.now a.news.now a.in_head.now a.out_head.now a.queue.now a.visited.now a.in_next.now a.out_next.now in
-    lent_kept a.self.graph a.update t c.lent-lent.result (sym (rw (c.enough.ensures, c.nodes.ensures) at c.lent-lent.ensures)) c.if-lent-ne0.true
+pub sent-requires : goal.sent-requires
+sent-requires c = (room _ (contents c.args.tables.now) c.lengths-lengths.ensures c.nodes.ensures c.enough.ensures c.in_ok-lent.ensures).long.marks
 
-pub sent-sent-requires : goal.sent-sent-requires
-sent-sent-requires c = (room c).long.marks
+pub returns-in_err-sent-clause-promise : goal.returns-in_err-sent-clause-promise
+returns-in_err-sent-clause-promise c =
+    let e : c.from_residual-in_err-sent.result ≡ Err c.in_err-sent.field-0.0 = search rules in
+    rw e (sent_kept c.args.self.now.graph c.args.update (contents c.args.tables.now) (answered _ _ c.lengths-lengths.ensures c.nodes.ensures c.enough.ensures c.in_ok-lent.ensures) c.in_err-sent.field-0.0 (sym c.in_err-sent.ensures))
 
-pub returns-then-sent-ne0 : goal.returns-then-sent-ne0
-returns-then-sent-ne0 c =
-    let l = (goal.at.returns-then-sent-ne0 c).Else-lent-ne0 in
-    sent_kept c.args.self.graph c.args.update (tables l) (passed l) c.sent-sent.result (sym c.sent-sent.ensures) c.if-sent-ne0.true
+pub invariant_of-steps : goal.invariant_of-steps
+invariant_of-steps c =
+    let t = contents c.args.tables.now in
+    let l = (lookable _ c.args.update t (room _ t c.lengths-lengths.ensures c.nodes.ensures c.enough.ensures c.in_ok-lent.ensures) (ranged _ t c.args.update c.in_ok-sent.ensures)).1 in
+    record { from_in_bounds = l.0; to_in_bounds = l.1; key_in_bounds = l.2 }
 
-pub comes_again-requires : goal.comes_again-requires
-comes_again-requires c =
-    let l = (goal.at.comes_again-requires c).Else-lent-ne0 in
-    let h = lookable c.args.self.graph c.args.update (tables l) (room l) (passed_of c.args.self.graph c.args.marks.now c.args.update (sym c.sent-sent.ensures ∙ omega arith)).0 in
-    record { in_range = h.0; steps_in_bounds = h.1 }
+pub comes_again-requires-clause-in_range : goal.comes_again-requires-clause-in_range
+comes_again-requires-clause-in_range c =
+    let t = contents c.args.tables.now in
+    (lookable _ c.args.update t (room _ t c.lengths-lengths.ensures c.nodes.ensures c.enough.ensures c.in_ok-lent.ensures) (ranged _ t c.args.update c.in_ok-sent.ensures)).0.0
+
+pub comes_again-requires-clause-marks_in_bounds : goal.comes_again-requires-clause-marks_in_bounds
+comes_again-requires-clause-marks_in_bounds c =
+    let t = contents c.args.tables.now in
+    (lookable _ c.args.update t (room _ t c.lengths-lengths.ensures c.nodes.ensures c.enough.ensures c.in_ok-lent.ensures) (ranged _ t c.args.update c.in_ok-sent.ensures)).0.1
+
+pub comes_again-requires-clause-source_in_bounds : goal.comes_again-requires-clause-source_in_bounds
+comes_again-requires-clause-source_in_bounds c =
+    let t = contents c.args.tables.now in
+    (lookable _ c.args.update t (room _ t c.lengths-lengths.ensures c.nodes.ensures c.enough.ensures c.in_ok-lent.ensures) (ranged _ t c.args.update c.in_ok-sent.ensures)).0.2
+
+pub comes_again-requires-clause-chain_in_bounds : goal.comes_again-requires-clause-chain_in_bounds
+comes_again-requires-clause-chain_in_bounds c =
+    let t = contents c.args.tables.now in
+    (lookable _ c.args.update t (room _ t c.lengths-lengths.ensures c.nodes.ensures c.enough.ensures c.in_ok-lent.ensures) (ranged _ t c.args.update c.in_ok-sent.ensures)).1.3
+
+pub comes_again-requires-clause-steps_fit : goal.comes_again-requires-clause-steps_fit
+comes_again-requires-clause-steps_fit c =
+    let t = contents c.args.tables.now in
+    (lookable _ c.args.update t (room _ t c.lengths-lengths.ensures c.nodes.ensures c.enough.ensures c.in_ok-lent.ensures) (ranged _ t c.args.update c.in_ok-sent.ensures)).1.4
 
 pub name_again-requires : goal.name_again-requires
 name_again-requires c =
-    let g = c.args.self.graph in
-    let r = (room (goal.at.name_again-requires c).Else-lent-ne0).long in
-    let h = (passed_of g c.args.marks.now c.args.update (sym c.sent-sent.ensures ∙ omega arith)).0 in
-    (in_range_wider g.n (length c.args.status.now) c.args.update r.status h, in_range_wider g.n (length c.args.marks.now) c.args.update r.marks h)
+    let t = contents c.args.tables.now in
+    let r = (room _ t c.lengths-lengths.ensures c.nodes.ensures c.enough.ensures c.in_ok-lent.ensures).long in
+    let h = ranged _ t c.args.update c.in_ok-sent.ensures in
+    (in_range_wider _ (length t.status) c.args.update r.status h, in_range_wider _ (length t.marks) c.args.update r.marks h)
 
-pub returns-then-comes_again : goal.returns-then-comes_again
-returns-then-comes_again c =
-    let p = goal.at.returns-then-comes_again c in
-    let l = p.Else-lent-ne0 in
+pub returns-then-comes_again-clause-promise : goal.returns-then-comes_again-clause-promise
+returns-then-comes_again-clause-promise c =
+    let t = contents c.args.tables.now in
     rw (c.name_again.ensures.0, c.name_again.ensures.1)
-    (again_kept c.args.self.graph c.args.update (tables l) (passed l) (sym c.sent-sent.ensures ∙ omega arith) (sym c.comes_again.ensures ∙ c.if-comes_again.true))
+    (again_kept _ c.args.update t (answered _ t c.lengths-lengths.ensures c.nodes.ensures c.enough.ensures c.in_ok-lent.ensures) (sym c.in_ok-sent.ensures) (sym c.comes_again.ensures ∙ c.if-comes_again.true))
 
-pub returns-then-full-ne0 : goal.returns-then-full-ne0
-returns-then-full-ne0 c =
-    let p = goal.at.returns-then-full-ne0 c in
-    let l = p.Else-lent-ne0 in
-    full_kept c.args.self.graph c.args.update (tables l) (passed l) (sym c.sent-sent.ensures ∙ omega arith) c.place_number-full.result (sym c.comes_again.ensures ∙ c.if-comes_again.false) (sym (rw c.is_full.ensures at c.place_number-full.ensures)) c.if-full-ne0.true
+pub returns-in_err-has_place-clause-promise : goal.returns-in_err-has_place-clause-promise
+returns-in_err-has_place-clause-promise c =
+    let t = contents c.args.tables.now in
+    let e : c.from_residual-in_err-has_place.result ≡ Err c.in_err-has_place.field-0.0 = search rules in
+    rw e (full_kept _ c.args.update t (answered _ t c.lengths-lengths.ensures c.nodes.ensures c.enough.ensures c.in_ok-lent.ensures) (sym c.in_ok-sent.ensures) c.in_err-has_place.field-0.0 (sym c.comes_again.ensures ∙ c.if-comes_again.false) (sym c.in_err-has_place.ensures))
 
-pub list-requires : goal.list-requires
-list-requires c =
-    let r = room (goal.at.list-requires c).Else-lent-ne0 in
-    let h = listable r c.args.update (storable c r.steps) in
-    record { in_range = h.0; free = h.1 }
+pub list-requires-clause-in_range : goal.list-requires-clause-in_range
+list-requires-clause-in_range c =
+    let t = contents c.args.tables.now in
+    let r = room _ t c.lengths-lengths.ensures c.nodes.ensures c.enough.ensures c.in_ok-lent.ensures in
+    let l = listable r c.args.update (storable _ t c.args.update r c.in_ok-sent.ensures c.in_ok-has_place.ensures) in
+    (l.0.0, l.0.1, l.0.2)
+
+pub list-requires-clause-key_fits : goal.list-requires-clause-key_fits
+list-requires-clause-key_fits c =
+    let t = contents c.args.tables.now in
+    let r = room _ t c.lengths-lengths.ensures c.nodes.ensures c.enough.ensures c.in_ok-lent.ensures in
+    let l = listable r c.args.update (storable _ t c.args.update r c.in_ok-sent.ensures c.in_ok-has_place.ensures) in
+    l.0.4
+
+pub list-requires-clause-place_fits : goal.list-requires-clause-place_fits
+list-requires-clause-place_fits c =
+    let t = contents c.args.tables.now in
+    let r = room _ t c.lengths-lengths.ensures c.nodes.ensures c.enough.ensures c.in_ok-lent.ensures in
+    let l = listable r c.args.update (storable _ t c.args.update r c.in_ok-sent.ensures c.in_ok-has_place.ensures) in
+    l.0.3
+
+pub list-requires-clause-free : goal.list-requires-clause-free
+list-requires-clause-free c =
+    let t = contents c.args.tables.now in
+    let r = room _ t c.lengths-lengths.ensures c.nodes.ensures c.enough.ensures c.in_ok-lent.ensures in
+    let l = listable r c.args.update (storable _ t c.args.update r c.in_ok-sent.ensures c.in_ok-has_place.ensures) in
+    l.1
 
 pub mark-requires : goal.mark-requires
 mark-requires c =
-    let p = goal.at.mark-requires c in
-    let r = room p.Else-lent-ne0 in
-    markable r c.args.update (storable p.After-list-arg-7-1 r.steps)
+    let t = contents c.args.tables.now in
+    let r = room _ t c.lengths-lengths.ensures c.nodes.ensures c.enough.ensures c.in_ok-lent.ensures in
+    markable r c.args.update (storable _ t c.args.update r c.in_ok-sent.ensures c.in_ok-has_place.ensures)
 
-pub after-after-requires : goal.after-after-requires
-after-after-requires c = let r = room (goal.at.after-after-requires c).Else-lent-ne0 in omega (arith, r.steps, r.bound)
+pub after-self-requires : goal.after-self-requires
+after-self-requires c =
+    let t = contents c.args.tables.now in
+    let r = room _ t c.lengths-lengths.ensures c.nodes.ensures c.enough.ensures c.in_ok-lent.ensures in
+    omega (arith, r.steps, r.bound)
 
-pub judge-count-requires : goal.judge-count-requires
-judge-count-requires c =
-    let p = goal.at.judge-count-requires c in
-    let a = c.args in
-    let r = room p.Else-lent-ne0 in
-    let walk = walkable r a.update (storable p.After-list-arg-7-1 r.steps) in
+pub invariant_of-arcs : goal.invariant_of-arcs
+invariant_of-arcs c =
+    let t = contents c.args.tables.now in
+    let r = room _ t c.lengths-lengths.ensures c.nodes.ensures c.enough.ensures c.in_ok-lent.ensures in
     let m = c.list.new in
     let k = c.list.auto in
-    let q = ap (λ (e : Graph). e.steps) c.after-after.ensures in
-    record {
-      in_range = ((passed_of a.self.graph a.marks.now a.update (sym c.sent-sent.ensures ∙ omega arith)).0, r.states);
-      walkable = (
-        walk a.from.now a.in_head.now a.in_next.now m.from m.in_head m.in_next r.long.from r.long.in_head r.long.in_next k.from k.in_head k.in_next c.after-after.result.steps q,
-        walk a.to.now a.out_head.now a.out_next.now m.to m.out_head m.out_next r.long.to r.long.out_head r.long.out_next k.to k.out_head k.out_next c.after-after.result.steps q,
-      );
-      n_in_bounds = (rw c.mark.auto.status r.long.status, r.long.successor, r.news, r.long.queue, r.long.visited);
-    }
+    record { walkable = walkable r c.args.update (storable _ t c.args.update r c.in_ok-sent.ensures c.in_ok-has_place.ensures) t.from t.in_head t.in_next m.from m.in_head m.in_next r.long.from r.long.in_head r.long.in_next k.from k.in_head k.in_next (ap (λ (g : Graph). g.steps) c.after-self.ensures) }
 
-pub returns : goal.returns
-returns c =
-    let p = goal.at.returns c in
-    let l = p.Else-lent-ne0 in
-    rw c.after-after.ensures
-    (done_kept c.args.self.graph c.args.update (tables l) (passed l) (sym c.sent-sent.ensures ∙ omega arith) (sym c.comes_again.ensures ∙ c.if-comes_again.false) (placed p.After-list-arg-7-1)
-    (done_of (tables l) _ c.args.update c.mark.ensures.1 c.list.ensures (ap (λ (e : Graph). e.steps) c.after-after.ensures) c.mark.ensures.0 c.judge-count.ensures))
+pub invariant_of-arcs-2 : goal.invariant_of-arcs-2
+invariant_of-arcs-2 c =
+    let t = contents c.args.tables.now in
+    let r = room _ t c.lengths-lengths.ensures c.nodes.ensures c.enough.ensures c.in_ok-lent.ensures in
+    let m = c.list.new in
+    let k = c.list.auto in
+    record { walkable = walkable r c.args.update (storable _ t c.args.update r c.in_ok-sent.ensures c.in_ok-has_place.ensures) t.to t.out_head t.out_next m.to m.out_head m.out_next r.long.to r.long.out_head r.long.out_next k.to k.out_head k.out_next (ap (λ (g : Graph). g.steps) c.after-self.ensures) }
+
+pub judge-requires-clause-in_range : goal.judge-requires-clause-in_range
+judge-requires-clause-in_range c =
+    let t = contents c.args.tables.now in
+    ranged _ t c.args.update c.in_ok-sent.ensures
+
+pub judge-requires-clause-n_fits : goal.judge-requires-clause-n_fits
+judge-requires-clause-n_fits c =
+    let t = contents c.args.tables.now in
+    (room _ t c.lengths-lengths.ensures c.nodes.ensures c.enough.ensures c.in_ok-lent.ensures).states
+
+pub judge-requires-clause-status_in_bounds : goal.judge-requires-clause-status_in_bounds
+judge-requires-clause-status_in_bounds c =
+    let t = contents c.args.tables.now in
+    rw c.mark.auto.status (room _ t c.lengths-lengths.ensures c.nodes.ensures c.enough.ensures c.in_ok-lent.ensures).long.status
+
+pub judge-requires-clause-successor_in_bounds : goal.judge-requires-clause-successor_in_bounds
+judge-requires-clause-successor_in_bounds c =
+    let t = contents c.args.tables.now in
+    (room _ t c.lengths-lengths.ensures c.nodes.ensures c.enough.ensures c.in_ok-lent.ensures).long.successor
+
+pub judge-requires-clause-queue_in_bounds : goal.judge-requires-clause-queue_in_bounds
+judge-requires-clause-queue_in_bounds c =
+    let t = contents c.args.tables.now in
+    (room _ t c.lengths-lengths.ensures c.nodes.ensures c.enough.ensures c.in_ok-lent.ensures).long.queue
+
+pub judge-requires-clause-visited_in_bounds : goal.judge-requires-clause-visited_in_bounds
+judge-requires-clause-visited_in_bounds c =
+    let t = contents c.args.tables.now in
+    (room _ t c.lengths-lengths.ensures c.nodes.ensures c.enough.ensures c.in_ok-lent.ensures).long.visited
+
+pub judge-requires-clause-news_in_bounds : goal.judge-requires-clause-news_in_bounds
+judge-requires-clause-news_in_bounds c =
+    let t = contents c.args.tables.now in
+    (room _ t c.lengths-lengths.ensures c.nodes.ensures c.enough.ensures c.in_ok-lent.ensures).news
+
+pub returns-clause-promise : goal.returns-clause-promise
+returns-clause-promise c =
+    let t = contents c.args.tables.now in
+    let e = c.after-self.ensures in
+    rw e
+    (done_kept _ c.args.update t (answered _ t c.lengths-lengths.ensures c.nodes.ensures c.enough.ensures c.in_ok-lent.ensures) (sym c.in_ok-sent.ensures) (sym c.comes_again.ensures ∙ c.if-comes_again.false) (sym c.in_ok-has_place.ensures)
+    (done_of t _ c.args.update c.mark.ensures.1 c.list.ensures refl c.mark.ensures.0 (rw e at c.judge.ensures)))

@@ -1,117 +1,76 @@
 -- `judge` spreads life, finds a way out near by, searches for the dead, or does nothing: its four ways are those of `Judged`. A state that an answer names is one of the update's, so it is below n.
 -- Assumes nothing.
-use mathlib.Core.Path.{◌≡◌, refl}
-use Prim.Native.Nat.{ℕ, ◌-◌, ◌+◌, ◌<◌}
+use mathlib.Core.Path.{refl, sym}
 use native.Mathlib.Omega.{arith}
-use lib.ListN.{length, set, length-set}
-use Rattle.gid.specs.Refusals.{max_states}
 use Rattle.tables.proofs.Marking.{has-mark}
-use Rattle.search.specs.Spreading.{chains, out_of}
-use Rattle.search.specs.Escaping.{toward, Near}
 use Rattle.search.proofs.Spreading.{begun_queued}
 use Rattle.search.proofs.Walking.{linked_inside}
-use Rattle.engine.specs.Judging.{quickened, endangered, quiet, revived, nears, swept}
-use Rattle.engine.proofs.Acting.{in_range_wider, quickened_state, endangered_state, escape_found}
+use Rattle.engine.specs.Judging.{revived, nears, swept}
+use Rattle.engine.proofs.Acting.{quickened_below, endangered_below}
 use Rattle.engine.proofs.accept.judge.Goals as goal
-use Rattle.engine.proofs.accept.judge.Goals.{Then-life-gt0, Else-closed-eq0, Then-p-gt0}
 
--- The state from which life spreads, and the one that is in danger.
-life_state :
-    (c : Then-life-gt0) →
-    (quickened c.args.update c.args.status.now ≡ (c.quickened-life.result - 1) + 1) × (c.quickened-life.result - 1 < c.args.n)
-life_state c = quickened_state c.args.n c.args.update c.args.status.now c.requires.in_range.0 c.quickened-life.ensures c.if-life-gt0.true
-
-danger_state :
-    (c : Else-closed-eq0) →
-    (endangered c.args.update c.args.status.now ≡ (c.endangered-closed.result - 1) + 1) × (c.endangered-closed.result - 1 < c.args.n)
-danger_state c = endangered_state c.args.n c.args.update c.args.status.now c.requires.in_range.0 c.endangered-closed.ensures c.if-closed-eq0.false
-
--- The step that is its way out.
-way_out :
-    (c : Then-p-gt0) →
+pub begin-starts-requires-clause-has_mark : goal.begin-starts-requires-clause-has_mark
+begin-starts-requires-clause-has_mark c =
     let a = c.args in
-    let u = c.endangered-closed.result - 1 in
-    let p = c.near_escape-p.result - 1 in
-    (t : ℕ) × out_of (chains a.n a.steps a.to.now a.out_head.now a.out_next.now) u p t × Near a.n (toward a.steps a.to.now) (set a.status.now u 2) a.successor.now t
-way_out c =
+    has-mark a.arcs.into.n a.visited.now c.in-Some.u (quickened_below _ a.update a.status.now _ c.requires.in_range (sym c.in-Some.ensures)) c.requires.visited_in_bounds
+
+pub begin-starts-requires-clause-start_fits : goal.begin-starts-requires-clause-start_fits
+begin-starts-requires-clause-start_fits c =
     let a = c.args in
-    let u = c.endangered-closed.result - 1 in
-    escape_found a.n (out_of (chains a.n a.steps a.to.now a.out_head.now a.out_next.now)) (toward a.steps a.to.now) (set a.status.now u 2) a.successor.now u c.near_escape-p.ensures c.if-p-gt0.true
+    omega (arith, quickened_below _ a.update a.status.now _ c.requires.in_range (sym c.in-Some.ensures), c.requires.n_fits)
 
-pub quickened-life-requires : goal.quickened-life-requires
-quickened-life-requires c = (in_range_wider c.args.n (length c.args.status.now) c.args.update c.requires.n_in_bounds.0 c.requires.in_range.0, in_range_wider c.args.n max_states c.args.update c.requires.in_range.1 c.requires.in_range.0)
+pub revive-requires-clause-queued : goal.revive-requires-clause-queued
+revive-requires-clause-queued c =
+    let a = c.args in
+    begun_queued c.begin-starts.ensures a.arcs.into.n (quickened_below _ a.update a.status.now _ c.requires.in_range (sym c.in-Some.ensures)) c.requires.visited_in_bounds c.requires.queue_in_bounds
 
-pub overflow_sub-life : goal.overflow_sub-life
-overflow_sub-life c = omega (arith, c.if-life-gt0.true)
-
-pub begin-starts-requires : goal.begin-starts-requires
-begin-starts-requires c =
-    let h = (life_state (goal.at.begin-starts-requires c).Then-life-gt0).1 in
-    (has-mark c.args.n c.args.visited.now (c.quickened-life.result - 1) h c.requires.n_in_bounds.4, omega (arith, h, c.requires.n_in_bounds.3), omega (arith, h, c.requires.in_range.1))
-
-pub revive-requires : goal.revive-requires
-revive-requires c =
-    let g = c.requires.n_in_bounds in
-    record { queued = (c.requires.in_range.1, begun_queued c.begin-starts.ensures c.args.n (life_state (goal.at.revive-requires c).Then-life-gt0).1 g.4 g.3); walkable = c.requires.walkable.0; n_in_bounds = (g.0, g.1, g.2, rw c.begin-starts.auto.queue g.3, rw c.begin-starts.auto.visited g.4) }
-
-pub returns-then-life-gt0 : goal.returns-then-life-gt0
-returns-then-life-gt0 c = revived (c.quickened-life.result - 1) (life_state (goal.at.returns-then-life-gt0 c).Then-life-gt0).0 c.begin-starts.result c.begin-starts.new.visited c.begin-starts.new.queue c.begin-starts.ensures c.revive.ensures
-
-pub endangered-closed-requires : goal.endangered-closed-requires
-endangered-closed-requires c = (in_range_wider c.args.n (length c.args.status.now) c.args.update c.requires.n_in_bounds.0 c.requires.in_range.0, in_range_wider c.args.n max_states c.args.update c.requires.in_range.1 c.requires.in_range.0)
-
-pub returns-then-closed-eq0 : goal.returns-then-closed-eq0
-returns-then-closed-eq0 c = quiet (omega (arith, c.quickened-life.ensures, c.if-life-gt0.false)) (omega (arith, c.endangered-closed.ensures, c.if-closed-eq0.true)) refl refl
-
-pub overflow_sub-u : goal.overflow_sub-u
-overflow_sub-u c = omega (arith, c.if-closed-eq0.false)
+pub returns-in-Some : goal.returns-in-Some
+returns-in-Some c = revived c.in-Some.u (sym c.in-Some.ensures) c.begin-starts.result c.begin-starts.new.visited c.begin-starts.new.queue c.begin-starts.ensures c.revive.ensures
 
 pub bounds-status-u : goal.bounds-status-u
-bounds-status-u c = omega (arith, (danger_state c).1, c.requires.n_in_bounds.0)
+bounds-status-u c =
+    let a = c.args in
+    omega (arith, endangered_below _ a.update a.status.now _ c.requires.in_range (sym c.in-Some-endangered.ensures), c.requires.status_in_bounds)
 
-pub near_escape-p-requires : goal.near_escape-p-requires
-near_escape-p-requires c = record { in_range = (danger_state c).1; walkable = c.requires.walkable.1; n_in_bounds = (rw length-set c.requires.n_in_bounds.0, c.requires.n_in_bounds.1) }
-
-pub overflow_sub-successor : goal.overflow_sub-successor
-overflow_sub-successor c = omega (arith, c.if-p-gt0.true)
+pub near_escape-requires-clause-in_range : goal.near_escape-requires-clause-in_range
+near_escape-requires-clause-in_range c =
+    let a = c.args in
+    omega (arith, a.arcs.same_nodes, endangered_below _ a.update a.status.now _ c.requires.in_range (sym c.in-Some-endangered.ensures))
 
 pub overflow_cast-successor : goal.overflow_cast-successor
 overflow_cast-successor c =
-    let a = c.args in
-    omega (
-      arith,
-      linked_inside a.out_head.now a.out_next.now a.steps (c.endangered-closed.result - 1) (way_out c).1.0,
-      c.requires.walkable.1.few,
-    )
+    let o = c.args.arcs.out_of in
+    omega (arith, linked_inside o.head.now o.next.now o.steps c.in-Some-endangered.u c.in-Some-near_escape.ensures.1.0, o.walkable.few)
 
 pub offset_bounds-successor-u : goal.offset_bounds-successor-u
-offset_bounds-successor-u c = omega (arith, (danger_state (goal.at.offset_bounds-successor-u c).Else-closed-eq0).1, c.requires.in_range.1)
+offset_bounds-successor-u c =
+    let a = c.args in
+    omega (arith, endangered_below _ a.update a.status.now _ c.requires.in_range (sym c.in-Some-endangered.ensures), c.requires.n_fits)
 
 pub bounds-successor-u : goal.bounds-successor-u
-bounds-successor-u c = omega (arith, (danger_state (goal.at.bounds-successor-u c).Else-closed-eq0).1, c.requires.n_in_bounds.1)
+bounds-successor-u c =
+    let a = c.args in
+    omega (arith, endangered_below _ a.update a.status.now _ c.requires.in_range (sym c.in-Some-endangered.ensures), c.requires.successor_in_bounds)
 
-pub returns-then-p-gt0 : goal.returns-then-p-gt0
-returns-then-p-gt0 c =
-    let w = way_out c in
-    nears (c.endangered-closed.result - 1) (c.near_escape-p.result - 1) w.0 (danger_state (goal.at.returns-then-p-gt0 c).Else-closed-eq0).0 w.1 w.2 refl refl
+pub returns-in-Some-near_escape : goal.returns-in-Some-near_escape
+returns-in-Some-near_escape c =
+    let w = c.in-Some-near_escape.ensures in
+    nears c.in-Some-endangered.u c.in-Some-near_escape.p w.0 (sym c.in-Some-endangered.ensures) w.1 (rw (sym c.args.arcs.same_nodes) at w.2) refl refl
 
-pub begin-starts-requires-2 : goal.begin-starts-requires-2
-begin-starts-requires-2 c =
-    let h = (danger_state (goal.at.begin-starts-requires-2 c).Else-closed-eq0).1 in
-    (has-mark c.args.n c.args.visited.now (c.endangered-closed.result - 1) h c.requires.n_in_bounds.4, omega (arith, h, c.requires.n_in_bounds.3), omega (arith, h, c.requires.in_range.1))
+pub begin-starts-requires-2-clause-has_mark : goal.begin-starts-requires-2-clause-has_mark
+begin-starts-requires-2-clause-has_mark c =
+    let a = c.args in
+    has-mark a.arcs.into.n a.visited.now c.in-Some-endangered.u (endangered_below _ a.update a.status.now _ c.requires.in_range (sym c.in-Some-endangered.ensures)) c.requires.visited_in_bounds
 
-pub sweep-requires : goal.sweep-requires
-sweep-requires c =
-    let g = c.requires.n_in_bounds in
-    record {
-      queued = (
-        c.requires.in_range.1,
-        begun_queued c.begin-starts-2.ensures c.args.n (danger_state (goal.at.sweep-requires c).Else-closed-eq0).1 g.4 g.3,
-      );
-      walkable_into = c.requires.walkable.0;
-      walkable_out = c.requires.walkable.1;
-      n_in_bounds = (rw length-set g.0, g.1, g.2, rw c.begin-starts-2.auto.queue g.3, rw c.begin-starts-2.auto.visited g.4);
-    }
+pub begin-starts-requires-2-clause-start_fits : goal.begin-starts-requires-2-clause-start_fits
+begin-starts-requires-2-clause-start_fits c =
+    let a = c.args in
+    omega (arith, endangered_below _ a.update a.status.now _ c.requires.in_range (sym c.in-Some-endangered.ensures), c.requires.n_fits)
+
+pub sweep-requires-clause-queued : goal.sweep-requires-clause-queued
+sweep-requires-clause-queued c =
+    let a = c.args in
+    begun_queued c.begin-starts-2.ensures a.arcs.into.n (endangered_below _ a.update a.status.now _ c.requires.in_range (sym c.in-Some-endangered.ensures)) c.requires.visited_in_bounds c.requires.queue_in_bounds
 
 pub returns : goal.returns
-returns c = swept (c.endangered-closed.result - 1) (danger_state (goal.at.returns c).Else-closed-eq0).0 c.begin-starts-2.result c.begin-starts-2.new.visited c.begin-starts-2.new.queue c.begin-starts-2.ensures c.sweep.ensures
+returns c = swept c.in-Some-endangered.u (sym c.in-Some-endangered.ensures) c.begin-starts-2.result c.begin-starts-2.new.visited c.begin-starts-2.new.queue c.begin-starts-2.ensures c.sweep.ensures

@@ -1,23 +1,26 @@
 -- `enumerate_ranks` meets its contract.
 -- Assumes nothing.
-use mathlib.Core.Path.{◌≡◌, refl, ◌∙◌}
+use mathlib.Core.Path.{sym, ◌∙◌}
 use native.Mathlib.Omega.{arith}
-use Rattle.enumeration.specs.Ranking.{rank_count}
-use Rattle.enumeration.proofs.Progress.{ranks_few, lists_none, lists_more}
+use Rattle.enumeration.proofs.Progress.{ranks_few, lists_none, lists_legal, lists_passed}
 use Rattle.enumeration.proofs.lines.enumerate_ranks.Goals as goal
+use Rattle.enumeration.proofs.lines.enumerate_ranks.Goals.{then-is_legal, else-is_legal}
 
 pub loop-rank-init : goal.loop-rank-init
-loop-rank-init c = (omega arith, refl, lists_none c.args.output.now)
+loop-rank-init c = lists_none c.args.lines.now (omega (arith, c.requires))
 
-pub enumerate_rank-next-requires : goal.enumerate_rank-next-requires
-enumerate_rank-next-requires c =
+pub put_history-requires-clause-room : goal.put_history-requires-clause-room
+put_history-requires-clause-room c =
     let v = c.loop-rank.invariant in
-    (omega arith, omega (arith, v.2.counted, ranks_few c.loop-rank.rank), omega (arith, c.requires, v.1, v.2.room))
+    omega (arith, c.requires, v.room, v.puts.size)
+
+pub overflow_add-count : goal.overflow_add-count
+overflow_add-count c = omega (arith, c.loop-rank.invariant.counted, ranks_few c.loop-rank.rank)
 
 pub loop-rank-preserved : goal.loop-rank-preserved
-loop-rank-preserved c = (omega arith, c.enumerate_rank-next.auto.output ∙ c.loop-rank.invariant.1, lists_more c.loop-rank.rank c.loop-rank.invariant.2 c.enumerate_rank-next.ensures (omega (arith, c.requires)))
-
-pub returns : goal.returns
-returns c =
-    let e : c.loop-rank.rank ≡ rank_count = omega arith in
-    rw (← e) c.loop-rank.invariant.2
+loop-rank-preserved c =
+    let v = c.loop-rank.invariant in
+    elim c.if-is_legal.branch [
+      | then-is_legal w ↦ rw (w.lines-is, w.count-is) (lists_legal c.loop-rank.rank v (sym c.is_legal.ensures ∙ w.if-is_legal.true) w.put_history.ensures.puts w.put_history.ensures.within)
+      | else-is_legal w ↦ rw (w.lines-is, w.count-is) (lists_passed c.loop-rank.rank v (sym c.is_legal.ensures ∙ w.if-is_legal.false))
+    ]

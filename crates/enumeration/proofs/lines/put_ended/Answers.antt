@@ -1,27 +1,27 @@
 -- `put_ended` meets its contract.
 -- Assumes nothing.
-use Prim.Native.Nat.{◌+◌}
 use native.Mathlib.Omega.{arith}
+use mathlib.Core.Path.{◌∙◌}
 use mathlib.Core.List.{[], ◌∷◌, ◌++◌}
-use lib.ListN.{length-append}
+use lib.ListN.{length-append, length-set}
 use Rattle.record.specs.declared.line.Form.TheVariants.{Keyed}
 use Rattle.record.specs.Text.{text}
-use Rattle.record.proofs.Writing.{lent_back}
 use Rattle.enumeration.proofs.Texts.{placed_last}
 use Rattle.enumeration.proofs.lines.put_ended.Goals as goal
 
-pub overflow_add-end : goal.overflow_add-end
-overflow_add-end c =
-    let a = c.args in
-    omega (arith, length-append (text Keyed a.update) (10 ∷ []), c.put_update.ensures.count)
+pub overflow_sub-line : goal.overflow_sub-line
+overflow_sub-line c = omega (arith, length-append (text Keyed c.args.update) (10 ∷ []), c.put_update.ensures.wrote.after)
 
-pub bounds-buf-end : goal.bounds-buf-end
-bounds-buf-end c =
-    let a = c.args in
-    omega (arith, length-append (text Keyed a.update) (10 ∷ []), c.put_update.ensures.count)
+pub bounds-line-line : goal.bounds-line-line
+bounds-line-line c = omega (arith, length-append (text Keyed c.args.update) (10 ∷ []), c.put_update.ensures.wrote.after, c.put_update.ensures.within)
 
 pub returns : goal.returns
 returns c =
     let a = c.args in
-    placed_last a.at (text Keyed a.update) a.buf.now _ (a.at + c.put_update.result) 10 a.last
-    (lent_back a.at (text Keyed a.update ++ (10 ∷ [])) a.buf.now c.put_update.new.buf c.put_update.result (omega arith) c.put_update.ensures) c.requires
+    let w = c.put_update.ensures in
+    record {
+      wrote = placed_last a.line.now.end (text Keyed a.update) a.line.now.buf.now c.put_update.new.self.buf.now c.put_update.new.self.end 10 a.last w.wrote c.requires;
+      size = length-set _ _ _ ∙ w.size;
+      within = rw length-set w.within;
+      same = w.same;
+    }

@@ -1,34 +1,31 @@
 -- `put_step` meets its contract.
 -- Assumes nothing.
+use mathlib.Core.Path.{◌≡◌, refl}
+use mathlib.Core.Bool.{cond}
 use native.Mathlib.Omega.{arith}
-use Rattle.record.proofs.Decimals.{five_digits}
-use Rattle.record.proofs.Placing.{placed_on}
+use Rattle.record.proofs.Putting.{puts_then}
+use Rattle.picture.specs.Picture.{bold_end, plain_end}
+use Rattle.picture.proofs.Drawing.{step_length}
 use Rattle.picture.proofs.text.put_step.Goals as goal
+use Rattle.picture.proofs.text.put_step.Goals.{Joined-bold, then-bold, else-bold}
 
-pub put_line-label-requires : goal.put_line-label-requires
-put_line-label-requires c = (c.requires.0, c.requires.1, omega (arith, c.requires.3))
+-- What stands behind the key.
+style_is : (c : Joined-bold) → c.if-bold.style.now ≡ cond c.args.bold bold_end plain_end
+style_is c =
+    elim c.if-bold.branch [
+      | then-bold w ↦ rw (w.if-bold.true, w.style-is) refl
+      | else-bold w ↦ rw (w.if-bold.false, w.style-is) refl
+    ]
 
-pub put_number_at-end-requires : goal.put_number_at-end-requires
-put_number_at-end-requires c = omega (arith, c.requires.3, c.put_line-label.ensures.1, c.put_line-label.auto.buf, five_digits c.args.key c.requires.2)
+pub put_line-requires : goal.put_line-requires
+put_line-requires c = omega (arith, step_length c.args.from c.args.to c.args.key c.args.bold)
 
-pub put_bytes_at-requires : goal.put_bytes_at-requires
-put_bytes_at-requires c = omega (arith, c.requires.3, c.put_line-label.ensures.1, c.put_line-label.auto.buf, c.put_number_at-end.ensures.after, c.put_number_at-end.auto.buf, five_digits c.args.key c.requires.2)
+pub put_number-requires : goal.put_number-requires
+put_number-requires c = omega (arith, step_length c.args.from c.args.to c.args.key c.args.bold)
 
-pub returns-then-bold : goal.returns-then-bold
-returns-then-bold c =
-    let x = five_digits c.args.key c.requires.2 in
-    rw c.if-bold.true (
-      placed_on (placed_on c.put_line-label.ensures.0 c.put_number_at-end.ensures (omega (arith, c.requires.3, c.put_line-label.ensures.1, c.put_number_at-end.ensures.after))) c.put_bytes_at.ensures (omega (arith, c.requires.3, c.put_line-label.ensures.1, c.put_number_at-end.ensures.after, c.put_bytes_at.ensures.after)),
-      omega (arith, c.put_line-label.ensures.1, c.put_number_at-end.ensures.after, c.put_bytes_at.ensures.after),
-    )
-
-pub put_bytes_at-requires-2 : goal.put_bytes_at-requires-2
-put_bytes_at-requires-2 c = omega (arith, c.requires.3, c.put_line-label.ensures.1, c.put_line-label.auto.buf, c.put_number_at-end.ensures.after, c.put_number_at-end.auto.buf, five_digits c.args.key c.requires.2)
+pub put_bytes-requires : goal.put_bytes-requires
+put_bytes-requires c =
+    rw (style_is (goal.at.put_bytes-requires c).Joined-bold) (omega (arith, step_length c.args.from c.args.to c.args.key c.args.bold, c.put_line.ensures.wrote.after, c.put_line.ensures.size, c.put_number.ensures.wrote.after, c.put_number.ensures.size))
 
 pub returns : goal.returns
-returns c =
-    let x = five_digits c.args.key c.requires.2 in
-    rw c.if-bold.false (
-      placed_on (placed_on c.put_line-label.ensures.0 c.put_number_at-end.ensures (omega (arith, c.requires.3, c.put_line-label.ensures.1, c.put_number_at-end.ensures.after))) c.put_bytes_at-2.ensures (omega (arith, c.requires.3, c.put_line-label.ensures.1, c.put_number_at-end.ensures.after, c.put_bytes_at-2.ensures.after)),
-      omega (arith, c.put_line-label.ensures.1, c.put_number_at-end.ensures.after, c.put_bytes_at-2.ensures.after),
-    )
+returns c = puts_then (puts_then c.put_line.ensures c.put_number.ensures) (rw (style_is (goal.at.returns c).Joined-bold) at c.put_bytes.ensures)

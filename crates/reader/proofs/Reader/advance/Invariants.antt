@@ -1,13 +1,17 @@
--- `advance` reads line after line. The invariant: the lines passed are the next of the record, and none is waited for. The measure is what is left of the part.
+-- `advance` reads line after line. The invariant: the tables are still those that were lent, the lines passed are the next of the record, and none is waited for. The measure is what is left of the part.
 -- Assumes nothing.
 use Prim.Native.Nat.{◌-◌}
 use lib.ListN.{length}
-use Rattle.tables.specs.Tables.{tables_of}
+use Rattle.tables.specs.Lending.{contents, StillLent}
 use Rattle.reader.proofs.Going.{Going}
 use Rattle.reader.proofs.Reader.advance.Given as goal
 
 abbrev pub invariant-loop-next : goal.invariant-loop-next
-invariant-loop-next l = Going l.until l.part l.at l.initial.current (tables_of l.initial.status l.initial.marks l.initial.from l.initial.to l.initial.key l.initial.successor l.initial.news l.initial.in_head l.initial.out_head l.initial.queue l.initial.visited l.initial.in_next l.initial.out_next) l.current (tables_of l.status l.marks l.from l.to l.key l.successor l.news l.in_head l.out_head l.queue l.visited l.in_next l.out_next) l.next
+invariant-loop-next l =
+    record {
+      still_lent : StillLent l.initial.tables l.tables;
+      going : Going l.until l.part l.at l.initial.self (contents l.initial.tables) l.self (contents l.tables) l.next;
+    }
 
 abbrev pub decreases-loop-next : goal.decreases-loop-next
 decreases-loop-next l = length l.part - l.next

@@ -1,36 +1,37 @@
 -- `parse_bytes` meets its contract.
 -- Assumes nothing.
-use Rattle.record.proofs.Indexed.{a_value, no_value, a_rest, no_rest, no_line, from_kind}
+use Rattle.std.proofs.Common.{sym, arith}
 use Rattle.record.specs.Grammar.{update}
-use borrow.Author.Tests.{ne_eqb}
-use lib.ListN.{get_or}
-use Rattle.std.proofs.Common.{arith}
+use Rattle.record.proofs.Indexed.{no_line, from_kind}
 use Rattle.record.proofs.grammar.parse_bytes.Goals as goal
+use borrow.Author.Tests.{ne_eqb}
 
-pub returns-then-s-eq0 : goal.returns-then-s-eq0
-returns-then-s-eq0 c = rw (no_line c.args.form c.args.s.now c.if-s-eq0.true)
+pub returns-in_err-kind : goal.returns-in_err-kind
+returns-in_err-kind c = rw (c.from_residual.ensures, no_line c.args.form c.args.s.now (sym c.in_err-kind.ensures.value))
 
-pub returns-in_default : goal.returns-in_default
-returns-in_default c = rw (from_kind c.args.form c.args.s.now c.if-s-eq0.false c.requires, no_rest c.args.s.now c.after_space.ensures c.in_default.is)
+pub returns-in_err-after : goal.returns-in_err-after
+returns-in_err-after c = rw (c.from_residual-in_err-after.ensures, from_kind c.args.form c.args.s.now _ (sym c.in_ok-kind.ensures.value) c.requires, ← c.in_err-after.ensures)
 
-pub returns-in_default-value_at : goal.returns-in_default-value_at
-returns-in_default-value_at c = rw (from_kind c.args.form c.args.s.now c.if-s-eq0.false c.requires, a_rest c.args.s.now c.after_space.ensures c.in-At.is, no_value c.args.s.now c.value_at.ensures c.in_default-value_at.is)
+pub returns-in_err-from : goal.returns-in_err-from
+returns-in_err-from c = rw (c.from_residual-in_err-from.ensures, from_kind c.args.form c.args.s.now _ (sym c.in_ok-kind.ensures.value) c.requires, ← c.in_ok-after.ensures, ← c.in_err-from.ensures)
 
-pub returns-in_default-after_space : goal.returns-in_default-after_space
-returns-in_default-after_space c = rw (from_kind c.args.form c.args.s.now c.if-s-eq0.false c.requires, a_rest c.args.s.now c.after_space.ensures c.in-At.is, a_value c.args.s.now c.value_at.ensures c.in-Number.is, no_rest c.args.s.now c.after_space-2.ensures c.in_default-after_space.is)
+pub returns-in_err-to : goal.returns-in_err-to
+returns-in_err-to c = rw (c.from_residual-in_err-to.ensures, from_kind c.args.form c.args.s.now _ (sym c.in_ok-kind.ensures.value) c.requires, ← c.in_ok-after.ensures, ← c.in_ok-from.ensures, ← c.in_err-to.ensures)
 
 pub returns-in-69 : goal.returns-in-69
 unfolding update
-returns-in-69 c = rw (from_kind c.args.form c.args.s.now c.if-s-eq0.false c.requires, a_rest c.args.s.now c.after_space.ensures c.in-At.is, a_value c.args.s.now c.value_at.ensures c.in-Number.is, a_rest c.args.s.now c.after_space-2.ensures c.in-At-after_space.is, c.in-69.is) c.parse_step.ensures
+returns-in-69 c = rw (from_kind c.args.form c.args.s.now _ (sym c.in_ok-kind.ensures.value) c.requires, ← c.in_ok-after.ensures, ← c.in_ok-from.ensures, ← c.in_ok-to.ensures, c.in-69.is) c.parse_step.ensures
 
 pub returns-in-84 : goal.returns-in-84
 unfolding update
-returns-in-84 c = rw (from_kind c.args.form c.args.s.now c.if-s-eq0.false c.requires, a_rest c.args.s.now c.after_space.ensures c.in-At.is, a_value c.args.s.now c.value_at.ensures c.in-Number.is, a_rest c.args.s.now c.after_space-2.ensures c.in-At-after_space.is, c.in-84.is) c.parse_mark.ensures
+returns-in-84 c = rw (from_kind c.args.form c.args.s.now _ (sym c.in_ok-kind.ensures.value) c.requires, ← c.in_ok-after.ensures, ← c.in_ok-from.ensures, ← c.in_ok-to.ensures, c.in-84.is) c.parse_mark.ensures
 
 pub returns-in-67 : goal.returns-in-67
 unfolding update
-returns-in-67 c = rw (from_kind c.args.form c.args.s.now c.if-s-eq0.false c.requires, a_rest c.args.s.now c.after_space.ensures c.in-At.is, a_value c.args.s.now c.value_at.ensures c.in-Number.is, a_rest c.args.s.now c.after_space-2.ensures c.in-At-after_space.is, c.in-67.is) c.parse_mark-in-67.ensures
+returns-in-67 c = rw (from_kind c.args.form c.args.s.now _ (sym c.in_ok-kind.ensures.value) c.requires, ← c.in_ok-after.ensures, ← c.in_ok-from.ensures, ← c.in_ok-to.ensures, c.in-67.is) c.parse_mark-in-67.ensures
 
-pub returns-in_default-kind : goal.returns-in_default-kind
+pub returns-in_default : goal.returns-in_default
 unfolding update
-returns-in_default-kind c = rw (from_kind c.args.form c.args.s.now c.if-s-eq0.false c.requires, a_rest c.args.s.now c.after_space.ensures c.in-At.is, a_value c.args.s.now c.value_at.ensures c.in-Number.is, a_rest c.args.s.now c.after_space-2.ensures c.in-At-after_space.is, ne_eqb (get_or c.args.s.now 0 0) 69 (λ e. omega arith), ne_eqb (get_or c.args.s.now 0 0) 84 (λ e. omega arith), ne_eqb (get_or c.args.s.now 0 0) 67 (λ e. omega arith))
+returns-in_default c =
+    let k = c.in_ok-kind.field-0.now in
+    rw (from_kind c.args.form c.args.s.now _ (sym c.in_ok-kind.ensures.value) c.requires, ← c.in_ok-after.ensures, ← c.in_ok-from.ensures, ← c.in_ok-to.ensures, ne_eqb k 69 (λ e. omega arith), ne_eqb k 84 (λ e. omega arith), ne_eqb k 67 (λ e. omega arith))

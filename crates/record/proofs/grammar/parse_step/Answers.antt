@@ -1,33 +1,21 @@
 -- `parse_step` meets its contract.
 -- Assumes nothing.
-use Rattle.record.proofs.Indexed.{a_value, no_value, whole_more, whole_end}
 use Rattle.record.specs.Grammar.{step}
-use Rattle.gid.specs.declared.Update.TheVariants.{Step}
-use Rattle.gid.specs.Updates.{edge}
+use Rattle.record.proofs.Indexed.{whole_more, whole_end}
 use Rattle.record.proofs.grammar.parse_step.Goals as goal
 
-pub returns-in_default : goal.returns-in_default
+pub returns-in_err-to : goal.returns-in_err-to
 unfolding step
-returns-in_default c = rw (no_value c.args.s.now c.value_at.ensures c.in_default.is)
+returns-in_err-to c = rw (c.from_residual.ensures, ← c.in_err-to.ensures)
 
-pub returns-in_default-key_at : goal.returns-in_default-key_at
+pub returns-in_err-key : goal.returns-in_err-key
 unfolding step
-returns-in_default-key_at c = rw (a_value c.args.s.now c.value_at.ensures c.in-Number.is, no_value c.args.s.now c.key_at.ensures c.in_default-key_at.is)
+returns-in_err-key c = rw (c.from_residual-in_err-key.ensures, ← c.in_ok-to.ensures, ← c.in_err-key.ensures)
 
-pub returns-then-end-s : goal.returns-then-end-s
+pub returns-then-key-s : goal.returns-then-key-s
 unfolding step
-returns-then-end-s c =
-    let a = c.args in
-    let s = a.s.now in
-    let to = c.in-Number.number in
-    let key = c.in-Number-key_at.key in
-    rw (a_value s c.value_at.ensures c.in-Number.is, a_value s c.key_at.ensures c.in-Number-key_at.is, whole_more s c.in-Number-key_at.end c.if-end-s.true (Step (edge a.from to key)))
+returns-then-key-s c = rw (← c.in_ok-to.ensures, ← c.in_ok-key.ensures, whole_more c.args.s.now c.in_ok-key.key.next c.if-key-s.true _)
 
 pub returns : goal.returns
 unfolding step
-returns c =
-    let a = c.args in
-    let s = a.s.now in
-    let to = c.in-Number.number in
-    let key = c.in-Number-key_at.key in
-    rw (a_value s c.value_at.ensures c.in-Number.is, a_value s c.key_at.ensures c.in-Number-key_at.is, whole_end s c.in-Number-key_at.end c.if-end-s.false (Step (edge a.from to key)))
+returns c = rw (← c.in_ok-to.ensures, ← c.in_ok-key.ensures, whole_end c.args.s.now c.in_ok-key.key.next c.if-key-s.false _)

@@ -6,8 +6,8 @@ use Rattle.record.proofs.splitter.first_line.Goals as goal
 
 pub returns-then-is_states : goal.returns-then-is_states
 unfolding after_first
-returns-then-is_states c = rw (sym c.is_states.ensures ∙ c.if-is_states.true, c.empty.ensures)
+returns-then-is_states c = rw (sym c.is_states.ensures ∙ c.if-is_states.true) c.next.ensures
 
-pub returns : goal.returns
+pub returns-else-is_states : goal.returns-else-is_states
 unfolding after_first
-returns c = rw (sym c.is_states.ensures ∙ c.if-is_states.false) c.names_line.ensures
+returns-else-is_states c = rw (sym c.is_states.ensures ∙ c.if-is_states.false) c.names_line.ensures

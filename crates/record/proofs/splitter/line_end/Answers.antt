@@ -1,17 +1,14 @@
 -- `line_end` meets its contract.
 -- Assumes nothing.
-use mathlib.Core.Path.{sym, ◌∙◌}
-use Rattle.record.proofs.Heading.{before_over, before_break, before_more}
+use Rattle.std.proofs.Common.{◌∙◌, length, ap, eqb, rules, tests}
+use Rattle.std.specs.Option.{unwrap_or}
+use Rattle.std.proofs.lemmas.Iterator.{YieldsList-from_slice}
+use Rattle.std.proofs.lemmas.Iterator.Search.{position_from_yields_List}
+use Rattle.record.proofs.Heading.{before_position}
 use Rattle.record.proofs.splitter.line_end.Goals as goal
 
-pub bounds-s-i : goal.bounds-s-i
-bounds-s-i c = c.loop-i-test.true
-
-pub returns-then-s-i-eq10 : goal.returns-then-s-i-eq10
-returns-then-s-i-eq10 c = before_break c.args.s.now c.loop-i.i c.loop-i-test.true c.if-s-i-eq10.true ∙ sym c.loop-i.invariant
-
-pub loop-i-preserved : goal.loop-i-preserved
-loop-i-preserved c = c.loop-i.invariant ∙ before_more c.args.s.now c.loop-i.i c.loop-i-test.true c.if-s-i-eq10.false
-
 pub returns : goal.returns
-returns c = before_over c.args.s.now c.loop-i.i c.loop-i-test.false ∙ sym c.loop-i.invariant
+returns c =
+    let s = c.args.s.now in
+    let found = position_from_yields_List (λ b. eqb b 10) _ _ _ c.position.ensures.ran (YieldsList-from_slice s cc) (λ x b q k. search (rules, tests)) in
+    c.unwrap_or.ensures ∙ ap (λ o. unwrap_or o (length s)) found ∙ before_position s

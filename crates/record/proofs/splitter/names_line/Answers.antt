@@ -10,8 +10,8 @@ returns-then-is_names c = rw (sym c.is_names.ensures ∙ c.if-is_names.true) c.n
 
 pub returns-then-is_names-2 : goal.returns-then-is_names-2
 unfolding after_names
-returns-then-is_names-2 c = rw (sym c.is_names.ensures ∙ c.if-is_names.false, sym c.is_names-2.ensures ∙ c.if-is_names-2.true) c.names_fed-then-is_names-2.ensures
+returns-then-is_names-2 c = rw (sym c.is_names.ensures ∙ c.if-is_names.false, sym c.is_names-else-is_names.ensures ∙ c.if-is_names-2.true) c.names_fed-then-is_names-2.ensures
 
-pub returns : goal.returns
+pub returns-else-is_names-2 : goal.returns-else-is_names-2
 unfolding after_names
-returns c = rw (sym c.is_names.ensures ∙ c.if-is_names.false, sym c.is_names-2.ensures ∙ c.if-is_names-2.false, c.empty.ensures)
+returns-else-is_names-2 c = rw (sym c.is_names.ensures ∙ c.if-is_names.false, sym c.is_names-else-is_names.ensures ∙ c.if-is_names-2.false) c.stop.ensures

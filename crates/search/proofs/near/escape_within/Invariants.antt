@@ -1,10 +1,12 @@
--- `escape_within` answers a step out of u. The invariant: the walk stands at a step out of u. The measure is its place.
+-- `escape_within` answers a step out of u. The invariant: the walk stands at a step out of u.
 -- Assumes nothing.
 use Rattle.search.proofs.Walking.{Walking}
 use Rattle.search.proofs.near.escape_within.Given as goal
 
 abbrev pub invariant-loop-p : goal.invariant-loop-p
-invariant-loop-p l = Walking l.out_head l.out_next l.steps l.u (λ _. Unit {0}) l.p
-
-abbrev pub decreases-loop-p : goal.decreases-loop-p
-decreases-loop-p l = l.p
+invariant-loop-p l =
+    record {
+      can_next : (goal.iterator-loop-p).can_next l.p-iterator;
+      is_finite : (goal.iterator-loop-p).is_finite l.p-iterator;
+      walk : Walking l.out.head.now l.out.next.now l.out.steps l.u (λ _. Unit {0}) l.p-iterator;
+    }

@@ -1,4 +1,4 @@
--- `way_out` answers a step that leads out, or none does. The invariant: none that the walk has passed. The measure is its place.
+-- `way_out` answers a step that leads out, or none does. The invariant: none that the walk has passed.
 -- Assumes nothing.
 use mathlib.Core.Path.{◌≡◌}
 use mathlib.Core.Bool.{false}
@@ -8,7 +8,9 @@ use Rattle.search.proofs.Walking.{Walking}
 use Rattle.search.proofs.rescue.way_out.Given as goal
 
 abbrev pub invariant-loop-p : goal.invariant-loop-p
-invariant-loop-p l = Walking l.out_head l.out_next l.steps l.x (λ i. outside l.n l.status l.visited (get_or l.to i 0) ≡ false) l.p
-
-abbrev pub decreases-loop-p : goal.decreases-loop-p
-decreases-loop-p l = l.p
+invariant-loop-p l =
+    record {
+      can_next : (goal.iterator-loop-p).can_next l.p-iterator;
+      is_finite : (goal.iterator-loop-p).is_finite l.p-iterator;
+      walk : Walking l.out.head.now l.out.next.now l.out.steps l.x (λ i. outside l.out.n l.status l.visited (get_or l.out.ends.now i 0) ≡ false) l.p-iterator;
+    }

@@ -2,34 +2,33 @@
 -- Assumes nothing.
 use Prim.Native.Nat.{◌+◌}
 use native.Mathlib.Omega.{arith}
+use Rattle.std.proofs.Common.{rules}
 use Rattle.tables.proofs.Marking.{visited_more}
+use Rattle.search.specs.Spreading.{Live, allowed}
 use Rattle.search.proofs.revive.revive.Goals as goal
+
+-- The closure is the test of life.
+pub spread-span-requires-clause-tells : goal.spread-span-requires-clause-tells
+spread-span-requires-clause-tells c = (allowed Live c.args.status.now c.args.successor.now, λ y p r h k. search rules)
 
 pub settle-requires : goal.settle-requires
 settle-requires c =
-    let l = c.requires.n_in_bounds in
-    let d = c.spread-span.ensures in
-    let h = d.queued.top in
-    let m = visited_more (c.spread-span.result.high + 1) c.args.n (omega arith) in
-    (omega (arith, h, l), omega (arith, h, l), omega (arith, h, l), omega (arith, m, l, d.visits.size), omega (arith, h, c.requires.queued.0))
-
-pub shape_of-status : goal.shape_of-status
-shape_of-status c = c.settle.ensures.statuses
-
-pub shape_of-successor : goal.shape_of-successor
-shape_of-successor c = c.settle.ensures.successors
-
-pub shape_of-news : goal.shape_of-news
-shape_of-news c = c.settle.ensures.names
-
-pub shape_of-queue : goal.shape_of-queue
-shape_of-queue c = c.spread-span.ensures.queues.size
+    let d = c.spread-span.ensures (allowed Live c.args.status.now c.args.successor.now) (λ y p r h k. search rules) in
+    let top = d.queued.top in
+    let m = visited_more (c.spread-span.result.high + 1) c.args.arcs.n (omega arith) in
+    record {
+      status_in_bounds = omega (arith, top, c.requires);
+      successor_in_bounds = omega (arith, top, c.requires);
+      news_in_bounds = omega (arith, top, c.requires);
+      visited_in_bounds = omega (arith, m, c.requires, d.visits.size);
+      high_fits = omega (arith, top, c.requires);
+    }
 
 pub returns : goal.returns
 returns c =
     record {
       visits = c.spread-span.new.visited;
       span = c.spread-span.result;
-      spread = c.spread-span.ensures;
+      spread = c.spread-span.ensures (allowed Live c.args.status.now c.args.successor.now) (λ y p r h k. search rules);
       settle = c.settle.ensures;
     }

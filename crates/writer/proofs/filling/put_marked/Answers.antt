@@ -3,25 +3,28 @@
 use Rattle.writer.specs.Sizing.{mark_line}
 use Rattle.writer.specs.Order.{line_bytes, bytes_of}
 use Rattle.gid.specs.declared.Update.{Update}
-use lib.ListN.{length}
-use native.Mathlib.Omega.{arith}
-use Rattle.record.proofs.Placing.{placed_none}
+use Rattle.record.specs.declared.line.Form.TheVariants.{Keyed}
+use Rattle.record.specs.Text.{text}
+use Rattle.record.proofs.Putting.{puts_none}
 use Rattle.writer.proofs.Bytes.{line_size, no_line}
+use mathlib.Core.List.{[], ◌∷◌}
 use mathlib.Core.Path.{◌≡◌, sym, ◌∙◌, ap}
+use lib.ListN.{length, length-append}
+use native.Mathlib.Omega.{arith}
 use Rattle.writer.proofs.filling.put_marked.Goals as goal
 
-pub put_line-requires : goal.put_line-requires
-put_line-requires c =
+pub put_update-requires : goal.put_update-requires
+put_update-requires c =
     let a = c.args in
-    let q : length (line_bytes c.update_of.result) ≡ length (bytes_of (mark_line a.mark a.byte a.state)) = ap (λ (x : Update). length (line_bytes x)) c.update_of.ensures ∙ ap length (sym (line_size a.mark a.byte a.state (sym c.has.ensures ∙ c.if-has.true))) in
-    omega (arith, c.requires)
+    let q : length (line_bytes c.update.result) ≡ length (bytes_of (mark_line a.mark a.byte a.state)) = ap (λ (x : Update). length (line_bytes x)) c.update.ensures ∙ ap length (sym (line_size a.mark a.byte a.state (sym c.is_set.ensures ∙ c.if-is_set.true))) in
+    omega (arith, c.requires, length-append (text Keyed c.update.result) (10 ∷ []))
 
-pub returns-then-has : goal.returns-then-has
-returns-then-has c =
+pub returns-then-is_set : goal.returns-then-is_set
+returns-then-is_set c =
     let a = c.args in
-    rw (line_size a.mark a.byte a.state (sym c.has.ensures ∙ c.if-has.true)) (rw c.update_of.ensures at c.put_line.ensures)
+    rw (line_size a.mark a.byte a.state (sym c.is_set.ensures ∙ c.if-is_set.true)) (rw c.update.ensures at c.put_update.ensures)
 
-pub returns : goal.returns
-returns c =
+pub returns-else-is_set : goal.returns-else-is_set
+returns-else-is_set c =
     let a = c.args in
-    rw (no_line a.mark a.byte a.state (sym c.has.ensures ∙ c.if-has.false)) (placed_none a.at a.buf.now)
+    rw (no_line a.mark a.byte a.state (sym c.is_set.ensures ∙ c.if-is_set.false)) (puts_none a.text.now (omega (arith, c.requires)))

@@ -1,14 +1,8 @@
--- `put_marks` meets its contract.
+-- The loop's invariant: the lines of the states passed were put.
 -- Assumes nothing.
+use Rattle.record.specs.Putting.{Puts}
 use Rattle.writer.specs.Order.{marked_lines, bytes_of}
-use Rattle.record.specs.Text.{WroteAt}
-use lib.ListN.{length}
-use Prim.Native.Nat.{◌≤◌, ◌-◌}
-use mathlib.Core.Path.{◌≡◌}
 use Rattle.writer.proofs.filling.put_marks.Given as goal
 
-abbrev pub invariant-loop-s : goal.invariant-loop-s
-invariant-loop-s l = (l.s ≤ l.n) × WroteAt l.at (bytes_of (marked_lines l.mark l.s l.marks)) l.initial.buf l.buf l.next × (length l.buf ≡ length l.initial.buf)
-
-abbrev pub decreases-loop-s : goal.decreases-loop-s
-decreases-loop-s l = l.n - l.s
+abbrev pub invariant-loop-state : goal.invariant-loop-state
+invariant-loop-state l = Puts (bytes_of (marked_lines l.mark l.state l.marks)) l.initial.text l.text

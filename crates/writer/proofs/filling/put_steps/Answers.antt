@@ -1,34 +1,29 @@
 -- `put_steps` meets its contract.
 -- Assumes nothing.
 use Rattle.writer.proofs.Bytes.{bytes_one, order_none, order_more, order_room}
-use Rattle.writer.specs.Order.{step_at}
-use Rattle.record.proofs.Placing.{placed_none, placed_on}
+use Rattle.writer.specs.Order.{step_at, line_bytes}
+use Rattle.record.specs.declared.line.Form.TheVariants.{Keyed}
+use Rattle.record.specs.Text.{text}
+use Rattle.record.proofs.Putting.{puts_none, puts_then}
+use lib.ListN.{length, length-append}
 use native.Mathlib.Omega.{arith}
+use mathlib.Core.List.{[], ◌∷◌}
 use mathlib.Core.Bool.{true}
-use mathlib.Core.Path.{◌≡◌, refl}
 use Rattle.writer.proofs.filling.put_steps.Goals as goal
 
 pub loop-p-init : goal.loop-p-init
 loop-p-init c =
-    let a = c.args in
-    (omega arith, rw (order_none (λ p. true) (step_at a.from.now a.to.now a.key.now)) (placed_none a.at a.buf.now), refl)
+    let s = c.args.source in
+    rw (order_none (λ p. true) (step_at s.from.now s.to.now s.key.now)) (puts_none c.args.text.now (omega (arith, c.requires)))
 
-pub put_step-next-requires : goal.put_step-next-requires
-put_step-next-requires c =
-    let a = c.args in
-    let g = rw bytes_one at (order_room (λ p. true) (step_at a.from.now a.to.now a.key.now) c.loop-p.p a.m (omega arith)) in
-    omega (arith, c.loop-p.invariant.1.after, c.loop-p.invariant.2, c.requires.3)
+pub put_update-requires : goal.put_update-requires
+put_update-requires c =
+    let s = c.args.source in
+    let g = rw bytes_one at (order_room (λ p. true) (step_at s.from.now s.to.now s.key.now) c.loop-p.p (length s.from.now) (omega arith)) in
+    rw c.step.ensures.right (omega (arith, length-append (text Keyed (step_at s.from.now s.to.now s.key.now c.loop-p.p)) (10 ∷ []), c.loop-p.invariant.wrote.after, c.loop-p.invariant.size, c.requires))
 
 pub loop-p-preserved : goal.loop-p-preserved
 loop-p-preserved c =
-    let a = c.args in
-    let g = rw bytes_one at (order_room (λ p. true) (step_at a.from.now a.to.now a.key.now) c.loop-p.p a.m (omega arith)) in (
-      omega arith,
-      rw (order_more (λ p. true) (step_at a.from.now a.to.now a.key.now) c.loop-p.p, bytes_one) (placed_on c.loop-p.invariant.1 c.put_step-next.ensures (omega (arith, c.put_step-next.ensures.after, c.loop-p.invariant.1.after, c.requires.3))),
-      omega (arith, c.put_step-next.auto.buf, c.loop-p.invariant.2),
-    )
-
-pub returns : goal.returns
-returns c =
-    let q : c.loop-p.p ≡ c.args.m = omega arith in
-    rw (← q) c.loop-p.invariant.1
+    let s = c.args.source in
+    let line = rw c.step.ensures.right at c.put_update.ensures in
+    rw (order_more (λ p. true) (step_at s.from.now s.to.now s.key.now) c.loop-p.p, bytes_one) (puts_then c.loop-p.invariant line)

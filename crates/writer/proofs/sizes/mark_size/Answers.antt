@@ -1,14 +1,11 @@
 -- `mark_size` meets its contract.
 -- Assumes nothing.
-use Rattle.writer.proofs.Bytes.{marking_within, line_size, no_line}
+use Rattle.writer.proofs.Bytes.{line_size, no_line}
 use mathlib.Core.Path.{sym, ◌∙◌}
 use Rattle.writer.proofs.sizes.mark_size.Goals as goal
 
-pub line_size-requires : goal.line_size-requires
-line_size-requires c = rw c.update_of.ensures (marking_within c.args.mark c.args.state c.requires)
+pub returns-then-is_set : goal.returns-then-is_set
+returns-then-is_set c = c.line_size.ensures ∙ (rw (c.update.ensures, line_size c.args.mark c.args.byte c.args.state (sym c.is_set.ensures ∙ c.if-is_set.true)))
 
-pub returns-then-has : goal.returns-then-has
-returns-then-has c = c.line_size.ensures ∙ (rw (c.update_of.ensures, line_size c.args.mark c.args.byte c.args.state (sym c.has.ensures ∙ c.if-has.true)))
-
-pub returns-else-has : goal.returns-else-has
-returns-else-has c = rw (no_line c.args.mark c.args.byte c.args.state (sym c.has.ensures ∙ c.if-has.false))
+pub returns-else-is_set : goal.returns-else-is_set
+returns-else-is_set c = rw (no_line c.args.mark c.args.byte c.args.state (sym c.is_set.ensures ∙ c.if-is_set.false))

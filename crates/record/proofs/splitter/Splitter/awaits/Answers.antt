@@ -1,24 +1,18 @@
 -- `awaits` meets its contract.
 -- Assumes nothing.
 use Rattle.record.specs.Splitting.{awaited}
+use Rattle.record.proofs.Splitting.{in_head}
 use Rattle.record.proofs.splitter.Splitter.awaits.Goals as goal
+use Rattle.record.proofs.splitter.Splitter.awaits.Goals.{in-Further, in_default}
 
-pub returns-then-self : goal.returns-then-self
+pub returns-after-matches : goal.returns-after-matches
 unfolding awaited
-returns-then-self c = rw c.if-self.true
+returns-after-matches c =
+    elim c.match-matches.branch [
+      | in-Further w ↦ rw (w.matches-is, c.if-not-self.true, w.in-Further.is)
+      | in_default w ↦ rw (w.matches-is, c.if-not-self.true, in_head c.args.self.phase w.in_default.not-Further)
+    ]
 
-pub returns-in-First : goal.returns-in-First
+pub returns-else-not-self : goal.returns-else-not-self
 unfolding awaited
-returns-in-First c = rw (c.if-self.false, c.in-First.is)
-
-pub returns-in-Count : goal.returns-in-Count
-unfolding awaited
-returns-in-Count c = rw (c.if-self.false, c.in-Count.is)
-
-pub returns-in-Names : goal.returns-in-Names
-unfolding awaited
-returns-in-Names c = rw (c.if-self.false, c.in-Names.is)
-
-pub returns-in-Further : goal.returns-in-Further
-unfolding awaited
-returns-in-Further c = rw (c.if-self.false, c.in-Further.is)
+returns-else-not-self c = rw c.if-not-self.false

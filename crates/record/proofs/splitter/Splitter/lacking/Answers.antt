@@ -6,12 +6,12 @@ use Rattle.record.proofs.splitter.Splitter.lacking.Goals as goal
 
 pub returns-then-leads_on : goal.returns-then-leads_on
 unfolding last_newlines
-returns-then-leads_on c = rw (sym c.pending.ensures ∙ c.if-pending.true, sym c.leads_on.ensures ∙ c.if-leads_on.true)
+returns-then-leads_on c = rw (sym c.pending.ensures ∙ c.if-not-pending.false, sym c.leads_on.ensures ∙ c.if-leads_on.true)
 
-pub returns-then-pending : goal.returns-then-pending
+pub returns-else-leads_on : goal.returns-else-leads_on
 unfolding last_newlines
-returns-then-pending c = rw (sym c.pending.ensures ∙ c.if-pending.true, sym c.leads_on.ensures ∙ c.if-leads_on.false)
+returns-else-leads_on c = rw (sym c.pending.ensures ∙ c.if-not-pending.false, sym c.leads_on.ensures ∙ c.if-leads_on.false)
 
-pub returns : goal.returns
+pub returns-then-not-pending : goal.returns-then-not-pending
 unfolding last_newlines
-returns c = rw (sym c.pending.ensures ∙ c.if-pending.false)
+returns-then-not-pending c = rw (sym c.pending.ensures ∙ c.if-not-pending.true)

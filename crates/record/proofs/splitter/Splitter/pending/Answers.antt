@@ -1,14 +1,13 @@
 -- `pending` meets its contract.
 -- Assumes nothing.
 use Rattle.record.specs.Splitting.{pending}
-use native.Mathlib.Omega.{arith}
-use borrow.Author.Tests.{eq-eqb, ne_eqb}
 use Rattle.record.proofs.splitter.Splitter.pending.Goals as goal
+use borrow.Author.Tests.{eq-eqb, ne_eqb}
 
-pub returns-then-line-eq0 : goal.returns-then-line-eq0
+pub returns-then-begun : goal.returns-then-begun
 unfolding pending
-returns-then-line-eq0 c = rw (eq-eqb c.args.self.line.len 0 c.if-line-eq0.true) c.awaits.ensures
+returns-then-begun c = rw (ne_eqb c.args.self.line.len 0 c.if-begun.true)
 
-pub returns : goal.returns
+pub returns-else-begun : goal.returns-else-begun
 unfolding pending
-returns c = rw (ne_eqb c.args.self.line.len 0 (λ e. omega arith))
+returns-else-begun c = rw (eq-eqb c.args.self.line.len 0 c.if-begun.false) c.awaits.ensures

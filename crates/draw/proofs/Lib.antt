@@ -1,2 +1,0 @@
--- The drawing program's loop.
-pub mod Turns

@@ -1,2 +1,0 @@
--- The listing program's loop.
-pub mod Turns

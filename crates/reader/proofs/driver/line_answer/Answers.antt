@@ -1,9 +1,0 @@
--- `line_answer` meets its contract.
--- Assumes nothing.
-use Rattle.reader.proofs.driver.line_answer.Goals as goal
-
-pub returns-in-Accepted : goal.returns-in-Accepted
-returns-in-Accepted c = rw c.in-Accepted.is
-
-pub returns-in-Refused : goal.returns-in-Refused
-returns-in-Refused c = rw c.in-Refused.is

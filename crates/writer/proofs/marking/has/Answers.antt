@@ -1,9 +1,0 @@
--- `has` meets its contract.
--- Assumes nothing.
-use Rattle.writer.proofs.marking.has.Goals as goal
-
-pub returns-in-Terminal : goal.returns-in-Terminal
-returns-in-Terminal c = rw c.in-Terminal.is c.has_terminal.ensures
-
-pub returns-in-Close : goal.returns-in-Close
-returns-in-Close c = rw c.in-Close.is c.has_closed.ensures
