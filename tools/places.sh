@@ -20,11 +20,13 @@ count 1 'functions that answer a number, or 0 for none (by their comment)' '^ */
 count 3 'loops by while or loop' '\b(while|loop) .*\{'
 count 4 'casts by as' ' as (usize|u8|u16|u32|u64)\b'
 count 4 'functions that compare, choose, widen or copy by hand' '^\s*(pub )?fn (equal|both|least|lesser|greater|wide|wide_key|is_found|is_count|fill|fill_bytes|put_bytes|places|block_end|line_end|status_of|successor_of|is_terminal|drawn_states|digit_of)\b'
-count 5 'functions that are lent in_head by itself' '^\s*(mut )?in_head: &'
+count 5 'lines that name in_head as a parameter or a field of a literal' '^\s*(mut )?in_head: &'
 count 5 'clauses on how long the tables of a walk are' 'requires (walkable|walkable_into|walkable_out|n_in_bounds|steps_in_bounds|chain_in_bounds|has_places)'
+count 5 'clauses on bounds and walks, of one fact or of several' 'requires [a-z_]*(_in_bounds|walkable)[a-z_]* '
 count 6 'functions that take a buffer with the place to write at' 'buf: &mut \[u8\], at: usize'
-count 6 'functions that take from, to and key side by side' '^\s*key: &|from: &\[u16\], to: &\[u16\], key: &\[u8\]'
-count 7 'switches over what to do' 'match (mode|form|mark|until|task)\b'
+count 6 'lines that name key beside from and to as a parameter or a field of a literal' '^\s*key: &|from: &\[u16\], to: &\[u16\], key: &\[u8\]'
+count 7 'matches on mode, form, mark, until, task' 'match (mode|form|mark|until|task)\b'
+printf '5  %4d  lengths that requires clauses speak of\n' "$(git grep -hE '^ +requires' $commit -- crates | grep -oE 'length [a-z_.]+\.(now|old)|visited_length [a-z.]+ ≤|Walkable' | grep -c '')"
 if [ -n "$commit" ]; then
     answers=$(git ls-tree -r --name-only "$commit" crates | grep 'Answers.antt$')
     lines=$(for f in $answers; do git show "$commit:$f"; done | grep -c '')

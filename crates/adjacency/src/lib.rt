@@ -41,7 +41,7 @@ pub struct BothWays<'a> {
 // A walk over the steps at a state, by their indices.
 #[derive(Drop)]
 pub struct Walk<'a> {
-    // 1 + the index of the step where the walk stands, or 0 at its end.
+    // 1 + the index of the step where the walk stands, or 0 at its end, as the lent tables have it.
     at: usize,
     next: &'a [u16],
 }
@@ -101,5 +101,6 @@ pub fn push(head: &mut [u16], next: &mut [u16], v: usize, p: usize)
     ensures { Pushed head.old next.old v p head.new next.new }
 {
     next[p] = head[v];
+    // A cast: it is proved to fit, and `try_from` would bring an error that cannot happen.
     head[v] = (p + 1) as u16;
 }

@@ -10,7 +10,7 @@ ghost use Rattle.audit.specs.Parts.{Below, Apart, ApartAll, ApartKeys, FromSourc
 use adjacency::Adjacency;
 use tables::{has_bit, with_bit};
 
-// The ranges start here.
+// The ranges of keys start here: numbers, and no kinds.
 const LOW: u8 = 0;
 
 const HIGH: u8 = 16;

@@ -30,6 +30,7 @@ fn nexts_fit(ends: &[u16], arcs: Adjacency, last: &mut [u16]) -> bool
         if arcs.next[p] != last[v] {
             return false;
         }
+        // A cast: it is proved to fit, and `try_from` would bring an error that cannot happen.
         last[v] = (p + 1) as u16;
     }
     true

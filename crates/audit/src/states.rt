@@ -6,7 +6,7 @@ ghost use Rattle.audit.specs.Facts.{All, suits, mentioned, successor_fits, state
 use super::stored::Stored;
 use tables::{DEAD, LIVE, Mark, NO_SUCCESSOR, OPEN, UNKNOWN, UNSEEN, is_visited};
 
-// The bytes of a state that is named, with no other mark, and of one that is closed besides.
+// Bytes of the lent marks, which may hold any sum, and so no enum: that of a state that is named, with no other mark, and of one that is closed besides.
 const NAMED: u8 = 1;
 
 const NAMED_CLOSED: u8 = 5;

@@ -34,6 +34,8 @@ pub struct Stored<'a> {
 }
 
 impl<'a> Stored<'a> {
+    // Which fields go together is all that these two say, so each says it by itself.
+
     // The listed steps, chained at their targets,
     pub fn into(self) -> Adjacency<'a>
         ensures n { result.n ≡ self.entry.n }

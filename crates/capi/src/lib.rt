@@ -107,6 +107,7 @@ pub extern "C" fn radvoinis_update(
     let mut engine = Engine { graph };
     let answer = engine.update(update, &mut tables);
     *steps = engine.graph.steps;
+    // A cast: it is proved to fit, and `try_from` would bring an error that cannot happen.
     code(answer.map(|count| count as u32))
 }
 

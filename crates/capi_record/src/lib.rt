@@ -30,6 +30,7 @@ pub extern "C" fn radvoinis_status(bytes: &[u8], state: u32) -> u8
         in_next: &mut [0; RECORD_LIMIT],
         out_next: &mut [0; RECORD_LIMIT],
     };
+    // A cast: std has no `From<u32>` for `usize`.
     match query::status_after(bytes, state as usize, &mut tables) {
         Ok(status) => status,
         Err(refusal) => REFUSED + u8::from(refusal),

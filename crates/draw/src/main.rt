@@ -46,7 +46,7 @@ impl Drive for Drawing {
     }
 }
 
-// Where a drawing ended, and whether its last text was written.
+// Where a drawing ended, and whether its last text was written. `EndsDrawing` speaks of both.
 #[derive(Clone, Copy)]
 struct DrawingEnd {
     drawer: Drawer,
@@ -76,6 +76,7 @@ fn main(rt: HostRuntime) {
     draw_record(&streams);
 }
 
+// The arrays are this function's own: one that made them for all programs would be handed what to do with them, with clauses for it, and the output would be out of sight.
 fn draw_record<R: Input + Print, E: Print>(streams: &Streams<R, E>) {
     draw_input(
         streams,

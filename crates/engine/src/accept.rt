@@ -74,6 +74,7 @@ pub fn list(
     ensures { Listed p update from.old to.old key.old in_head.old out_head.old in_next.old out_next.old from.new to.new key.new in_head.new out_head.new in_next.new out_next.new }
 {
     if let Update::Step { edge } = update {
+        // Casts: they are proved to fit, and `try_from` would bring errors that cannot happen.
         from[p] = edge.from as u16;
         to[p] = edge.to as u16;
         key[p] = edge.key as u8;
@@ -143,6 +144,7 @@ pub fn judge(
     };
     status[u] = UNKNOWN;
     if let Some(p) = near_escape(u, arcs.out_of, status, successor) {
+        // A cast: it is proved to fit, and `try_from` would bring an error that cannot happen.
         successor[u] = p as u16;
         return 0;
     }

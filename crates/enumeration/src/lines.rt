@@ -61,7 +61,7 @@ fn put_history(line: &mut TextBuffer, rank: usize)
     line.put_bytes(&digits);
 }
 
-// The updates' lines, joined by commas, and a colon.
+// The updates' lines, joined by commas, and a colon, which stands also where there is none: so it is no case of the recursion below.
 fn put_separated(line: &mut TextBuffer, rank: usize)
     requires { line.old.end + length (comma_separated (unranked rank)) < length line.old.buf.now }
     ensures { Puts (comma_separated (unranked rank) ++ (58 ∷ [])) line.old line.new }

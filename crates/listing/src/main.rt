@@ -48,7 +48,7 @@ impl Drive for Listing {
     }
 }
 
-// Where a listing ended, and whether its last text was written.
+// Where a listing ended, and whether its last text was written. `EndsListing` speaks of both.
 #[derive(Clone, Copy)]
 struct ListingEnd {
     lister: Lister,
@@ -77,6 +77,7 @@ fn main(rt: HostRuntime) {
     list_record(&streams);
 }
 
+// The arrays are this function's own: one that made them for all programs would be handed what to do with them, with clauses for it, and the output would be out of sight.
 fn list_record<R: Input + Print, E: Print>(streams: &Streams<R, E>) {
     list_input(
         streams,

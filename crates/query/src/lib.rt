@@ -19,9 +19,8 @@ pub fn status_after(bytes: &[u8], state: usize, tables: &mut LentTables) -> Resu
     let mut reader = Reader::start(engine);
     let first = reader.advance(bytes, 0, Until::Refusal, tables);
     accepted(first.answer)?;
-    let newlines: &[u8] = b"\n\n";
-    let lacking = reader.splitter.lacking();
-    let last = reader.advance(&newlines[..lacking], 0, Until::Refusal, tables);
+    let newlines = reader.part_of(&[]);
+    let last = reader.advance(newlines, 0, Until::Refusal, tables);
     accepted(last.answer)?;
     Ok(tables.status[state])
 }

@@ -14,7 +14,7 @@ pub enum Form {
 pub struct Line {
     // The line's bytes, the first 16 of them.
     pub bytes: [u8; 16],
-    // How many there are. 17 says that there are more than 16.
+    // How many there are. 17 says that there are more than 16, as the meaning of filling (`filled_from`) has it.
     pub len: usize,
 }
 

@@ -39,6 +39,7 @@ impl TextBuffer<'_> {
         ensures { Puts (decimal value) self.old self.new }
     {
         if value < 10 {
+            // A cast, here and below: it is proved to fit.
             return self.put_byte(b'0' + value as u8);
         }
         self.put_number(value / 10);

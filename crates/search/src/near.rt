@@ -40,6 +40,7 @@ fn escape_within(
     ensures { Escape out.entry.n (out_of (chains_of out.entry)) (toward out.entry.steps out.entry.ends.now)
         status.now successor.now u result }
 {
+    // A loop: with `find` the proof that each step is in bounds did not close.
     for p in out.steps_at(u) {
         if meets_open(most, usize::from(out.ends[p]), out, status, successor) {
             return Some(p);

@@ -74,6 +74,7 @@ fn way_out(x: usize, out: Adjacency, status: &[u8], visited: &[u16]) -> Option<u
     ensures { FindsOut out.entry.n (out_of (chains_of out.entry))
         status.now visited.now x result }
 {
+    // A loop: with `find` the proof that each step is in bounds did not close.
     for p in out.steps_at(x) {
         if leads_out(out.n, usize::from(out.ends[p]), status, visited) {
             return Some(p);
@@ -189,6 +190,7 @@ fn release(
     ensures { Taken x p visited.old successor.old queue.old
         visited.new successor.new queue.new released result }
 {
+    // Casts: they are proved to fit, and `try_from` would bring errors that cannot happen.
     successor[x] = p as u16;
     clear_visited(visited, x);
     queue[released] = x as u16;

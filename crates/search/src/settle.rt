@@ -69,6 +69,7 @@ fn tell(node: usize, count: usize, news: &mut [u16]) -> usize
     requires news_has_room { count < length news.old }
     ensures { Told node count news.old news.new result }
 {
+    // A cast: it is proved to fit, and `try_from` would bring an error that cannot happen.
     news[count] = node as u16;
     count + 1
 }

@@ -63,10 +63,11 @@ fn offer_sources<F: Fn(usize, usize) -> bool>(
     requires queue_has_room { before.len + unvisited arcs.n visited.old ≤ arcs.n }
     requires queue_in_bounds { arcs.n ≤ length queue.old }
     requires visited_in_bounds { visited_length arcs.n ≤ length visited.old }
-    ensures { (ok : ℕ → ℕ → Bool) → Tells arcs.entry.n (F.post allows.now) ok →
+    ensures offers { (ok : ℕ → ℕ → Bool) → Tells arcs.entry.n (F.post allows.now) ok →
         Offers arcs.entry.n (into (chains_of arcs.entry)) ok
-        x visited.old queue.old before visited.new queue.new result
-        × SourcesVisited arcs.entry.n (into (chains_of arcs.entry)) ok visited.new x }
+        x visited.old queue.old before visited.new queue.new result }
+    ensures sources_visited { (ok : ℕ → ℕ → Bool) → Tells arcs.entry.n (F.post allows.now) ok →
+        SourcesVisited arcs.entry.n (into (chains_of arcs.entry)) ok visited.new x }
 {
     let mut span = before;
     for p in arcs.steps_at(x) {
@@ -111,6 +112,7 @@ pub fn begin(start: usize, queue: &mut [u16], visited: &mut [u16]) -> Span
     ensures { Begun start visited.old queue.old visited.new queue.new result }
 {
     set_visited(visited, start);
+    // A cast: it is proved to fit, and `try_from` would bring an error that cannot happen.
     queue[0] = start as u16;
     Span {
         len: 1,
@@ -127,6 +129,7 @@ pub fn admit(span: Span, y: usize, queue: &mut [u16], visited: &mut [u16]) -> Sp
     ensures { Admitted y visited.old queue.old span visited.new queue.new result }
 {
     set_visited(visited, y);
+    // A cast: it is proved to fit, and `try_from` would bring an error that cannot happen.
     queue[span.len] = y as u16;
     Span {
         len: span.len + 1,

@@ -17,7 +17,7 @@ const BLOCK: usize = 256;
 // How many of the steps out of the source the quick look follows.
 const QUICK: usize = 8;
 
-// The listed steps: what stands in the first `len` places of the three tables.
+// The listed steps: what stands in the first `len` places of the three tables. `first_place`, which `find_step` promises, speaks of the first places of longer tables, so that the length is a field.
 #[derive(Clone, Copy)]
 pub struct Steps<'a> {
     pub len: usize,

@@ -16,8 +16,8 @@ use std::io::Read;
 use std::rt::Env;
 use tables::LentTables;
 
-// What came of a task.
-#[derive(Clone, Copy, PartialEq, Eq)]
+// What came of a task: three outcomes, which `Serves` names, and none an error to hand on.
+#[derive(Clone, Copy)]
 pub enum Served {
     // So many bytes of the input buffer are the piece to call with.
     Piece(usize),
@@ -52,7 +52,7 @@ impl<R: Env + Print, E: Print> Streams<'_, R, E> {
             return false;
         }
         if words == 2 && self.asks_for_help() {
-            write_text(self, usage, usage.len());
+            self.write_text(usage, usage.len());
         } else {
             // Where standard error cannot be written there is nobody left to tell.
             let _ = self.errors.write_all(usage);
@@ -87,8 +87,8 @@ impl<R: Input + Print, E: Print> Streams<'_, R, E> {
     {
         match task {
             Task::Read => Served::Piece(self.read_piece(input)),
-            Task::Write if write_text(self, output, end) => Served::Piece(count),
-            Task::End if write_text(self, output, end) => Served::Over,
+            Task::Write if self.write_text(output, end) => Served::Piece(count),
+            Task::End if self.write_text(output, end) => Served::Over,
             _ => Served::Failed,
         }
     }
@@ -123,23 +123,28 @@ impl<R: Input + Print, E: Print> Streams<'_, R, E> {
         ensures { result ≤ length input.new }
     {
         let Ok(count) = self.rt.reader().read(input) else {
-            say(self, b": cannot read standard input\n");
+            self.say(b": cannot read standard input\n");
             return 0;
         };
         count
     }
 }
 
-fn write_text<R: Print, E: Print>(streams: &Streams<R, E>, text: &[u8], end: usize) -> bool {
-    let written = streams.rt.write_all(&text[..end.min(text.len())]).is_ok();
-    if !written {
-        say(streams, b": cannot write standard output\n");
+impl<R: Print, E: Print> Streams<'_, R, E> {
+    // Writes the front of a text to standard output, and answers whether that could be done.
+    fn write_text(&self, text: &[u8], end: usize) -> bool {
+        let written = self.rt.write_all(&text[..end.min(text.len())]).is_ok();
+        if !written {
+            self.say(b": cannot write standard output\n");
+        }
+        written
     }
-    written
 }
 
-// Where standard error cannot be written there is nobody left to tell.
-fn say<R, E: Print>(streams: &Streams<R, E>, what: &[u8]) {
-    let _ = streams.errors.write_all(streams.program);
-    let _ = streams.errors.write_all(what);
+impl<R, E: Print> Streams<'_, R, E> {
+    // Where standard error cannot be written there is nobody left to tell.
+    fn say(&self, what: &[u8]) {
+        let _ = self.errors.write_all(self.program);
+        let _ = self.errors.write_all(what);
+    }
 }

@@ -1,4 +1,4 @@
-// What the engine is handed, and what it refuses: the state value, the caller's tables, the numbers 1 to 9 and 14, the mark bits, and the status question.
+// What the engine is handed, and what calls refuse: the state value, the caller's tables, the refusals with document 01's numbers, the mark bits, and the status question.
 #![tactic(auto)]
 
 ghost use Rattle.std.specs.Prelude.{◌≡◌, ◌≤◌, ◌<◌, length};
@@ -37,7 +37,7 @@ pub const MAX_KEY: usize = 31;
 // "For every other state the entry is 65,535."
 pub const NO_SUCCESSOR: u16 = 65535;
 
-// "0 unseen, 1 open, 2 unknown, 3 live, 4 dead"
+// "0 unseen, 1 open, 2 unknown, 3 live, 4 dead": entries of the lent tables, which C reads and which may hold any byte, and so no enum.
 pub const UNSEEN: u8 = 0;
 
 pub const OPEN: u8 = 1;

@@ -53,5 +53,6 @@ pub fn skip_unvisited(visited: &[u16], s: usize) -> usize
 fn bit_of(s: usize) -> u8
     ensures { result ≡ s % 16 }
 {
+    // A cast: it is proved to fit, and `try_from` would bring an error that cannot happen.
     (s % 16) as u8
 }

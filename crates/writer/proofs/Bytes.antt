@@ -16,8 +16,8 @@ use Rattle.record.specs.declared.line.Form.TheVariants.{Keyed}
 use Rattle.record.specs.Text.{decimal, states_line, text, max_value, Within}
 use Rattle.record.proofs.Decimals.{decimal_digit, five_digits as most}
 use Rattle.record.proofs.Writing.{room_more, step_length, mark_length}
-use Rattle.writer.specs.declared.marking.Mark.{Mark}
-use Rattle.writer.specs.declared.marking.Mark.TheVariants.{Terminal as ForTerminal, Close as ForClose}
+use Rattle.writer.specs.declared.marking.LineMark.{LineMark}
+use Rattle.writer.specs.declared.marking.LineMark.TheVariants.{Terminal as ForTerminal, Close as ForClose}
 use Rattle.writer.specs.Order.{has_mark, marking, in_order, is_marked, marked_lines, step_at, step_lines, written_updates, line_bytes, bytes_of, names_bytes, head_bytes, record_of}
 use Rattle.writer.specs.declared.source.Source.{Source}
 use Rattle.writer.specs.Sizing.{mark_line, listed_lines, source_record}
@@ -56,7 +56,7 @@ line_bound (Step e) w = omega (arith, step_size e, most e.from (omega (arith, w.
 line_bound (Terminal u) w = omega (arith, terminal_size u, most u (omega arith))
 line_bound (Close u) w = omega (arith, close_size u, most u (omega arith))
 
-pub marking_within : (k : Mark) (s : ℕ) → s ≤ max_value → Within Keyed (marking k s)
+pub marking_within : (k : LineMark) (s : ℕ) → s ≤ max_value → Within Keyed (marking k s)
 marking_within ForTerminal s h = h
 marking_within ForClose s h = h
 
@@ -70,14 +70,14 @@ unfolding bytes_of
 bytes_one x = append-nil (line_bytes x)
 
 -- a state's line, where it has the mark, and where it has not
-pub line_size : (k : Mark) (b s : ℕ) → has_mark k b ≡ true → bytes_of (mark_line k b s) ≡ line_bytes (marking k s)
+pub line_size : (k : LineMark) (b s : ℕ) → has_mark k b ≡ true → bytes_of (mark_line k b s) ≡ line_bytes (marking k s)
 line_size k b s e = rw e (bytes_one (marking k s))
 
-pub no_line : (k : Mark) (b s : ℕ) → has_mark k b ≡ false → bytes_of (mark_line k b s) ≡ []
+pub no_line : (k : LineMark) (b s : ℕ) → has_mark k b ≡ false → bytes_of (mark_line k b s) ≡ []
 unfolding bytes_of
 no_line k b s e = rw e refl
 
-pub mark_bound : (k : Mark) (b s : ℕ) → s ≤ max_value → length (bytes_of (mark_line k b s)) ≤ 20
+pub mark_bound : (k : LineMark) (b s : ℕ) → s ≤ max_value → length (bytes_of (mark_line k b s)) ≤ 20
 mark_bound k b s h = by (has_mark k b) refl
   where
     by : (t : Bool) → has_mark k b ≡ t → length (bytes_of (mark_line k b s)) ≤ 20

@@ -24,8 +24,8 @@ use Rattle.tables.specs.Listing.{Distinct}
 use Rattle.tables.specs.Fitting.{marks_of, Consistent}
 use Rattle.tables.proofs.Bits.{marks_bits}
 use Rattle.tables.proofs.Listed.{listed_at, consistent_distinct}
-use Rattle.writer.specs.declared.marking.Mark.{Mark}
-use Rattle.writer.specs.declared.marking.Mark.TheVariants.{Terminal as ForTerminal, Close as ForClose}
+use Rattle.writer.specs.declared.marking.LineMark.{LineMark}
+use Rattle.writer.specs.declared.marking.LineMark.TheVariants.{Terminal as ForTerminal, Close as ForClose}
 use Rattle.writer.specs.Order.{has_mark, marking, in_order, is_marked, marked_lines, edge_at, step_at, step_lines, written_updates}
 
 -- The history after a list of updates has what it had, and the list's.
@@ -88,12 +88,12 @@ firsts (suc m) from to key = firsts m from to key ++ (edge_at from to key m ∷ 
 
 module _ (marks from to key : List ℕ) where
   -- A mark lists no step,
-  listed_mark : (k : Mark) (h : History) (s : ℕ) → listed (marking k s ∷ h) ≡ listed h
+  listed_mark : (k : LineMark) (h : History) (s : ℕ) → listed (marking k s ∷ h) ≡ listed h
   unfolding listed
   listed_mark ForTerminal h s = append-nil (listed h)
   listed_mark ForClose h s = append-nil (listed h)
 
-  listed_marks : (k : Mark) (n : ℕ) (h : History) → listed (following h (marked_lines k n marks)) ≡ listed h
+  listed_marks : (k : LineMark) (n : ℕ) (h : History) → listed (following h (marked_lines k n marks)) ≡ listed h
   unfolding in_order
   listed_marks k zero h = refl
   listed_marks k (suc n) h = rw (following_append h (marked_lines k n marks) (cond (is_marked k marks n) (marking k n ∷ []) [])) (at (is_marked k marks n) ∙ listed_marks k n h)
@@ -156,7 +156,7 @@ module _ (n m : ℕ) (marks from to key : List ℕ) where
       unmarked : (i : ℕ) {s : ℕ} → IsClosed (following [] (marked_lines ForTerminal i marks)) s → ⊥
       unmarked i {s} q = ⊎_elim Memᴰ.not-nil (λ o. terminal_close o.0 s (sym o.2)) (order_closed (is_marked ForTerminal marks) Terminal i q)
 
-decides_mark : (k : Mark) (h : History) (s : ℕ) → Decides (has_mark k (marks_of h s)) (Has h (marking k s))
+decides_mark : (k : LineMark) (h : History) (s : ℕ) → Decides (has_mark k (marks_of h s)) (Has h (marking k s))
 decides_mark ForTerminal h s = rw (marks_bits h s).1 (decides_terminal h s)
 decides_mark ForClose h s = rw (marks_bits h s).2 (decides_closed h s)
 
@@ -165,12 +165,12 @@ abbrev pub written_of : Graph → Tables → List Update
 written_of g t = written_updates g.n g.steps t.marks t.from t.to t.key
 
 module _ {h : History} {g : Graph} {t : Tables} (c : Consistent h g t) where
-  marked_had : (k : Mark) {x : Update} → Memᴰ x (marked_lines k g.n t.marks) → Has h x
+  marked_had : (k : LineMark) {x : Update} → Memᴰ x (marked_lines k g.n t.marks) → Has h x
   marked_had k m =
       let o = order_of (is_marked k t.marks) (marking k) g.n m in
       rw o.3 ((decides_mark k h o.0).sound (ap (has_mark k) (sym (c.marks o.0 o.1)) ∙ o.2))
 
-  had_marked : (k : Mark) (s : ℕ) → s < g.n → Has h (marking k s) → Memᴰ (marking k s) (marked_lines k g.n t.marks)
+  had_marked : (k : LineMark) (s : ℕ) → s < g.n → Has h (marking k s) → Memᴰ (marking k s) (marked_lines k g.n t.marks)
   had_marked k s r m = order_in (is_marked k t.marks) (marking k) g.n s r (ap (has_mark k) (c.marks s r) ∙ (decides_mark k h s).complete m)
 
   steps_had : {x : Update} → Memᴰ x (step_lines g.steps t.from t.to t.key) → Has h x

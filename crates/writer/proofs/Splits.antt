@@ -21,7 +21,7 @@ use Rattle.record.specs.Items.{same, max_lines, further, from_names, from_count,
 use Rattle.record.proofs.Decimals.{decimal_digit, decimal_more}
 use Rattle.record.proofs.Reading.{Short, text_short, line_back, count_back}
 use Rattle.record.proofs.Splitting.{Unbroken, none', more, lines_break}
-use Rattle.writer.specs.declared.marking.Mark.TheVariants.{Terminal as ForTerminal, Close as ForClose}
+use Rattle.writer.specs.declared.marking.LineMark.TheVariants.{Terminal as ForTerminal, Close as ForClose}
 use Rattle.writer.specs.Order.{in_order, is_marked, marked_lines, step_at, step_lines, written_updates, bytes_of, names_bytes, head_bytes, record_of}
 
 -- a byte that is no newline

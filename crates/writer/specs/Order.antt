@@ -8,16 +8,16 @@ use Rattle.gid.specs.Updates.{edge}
 use Rattle.tables.specs.Marks.{has_terminal, has_closed}
 use Rattle.record.specs.declared.line.Form.TheVariants.{Keyed}
 use Rattle.record.specs.Text.{decimal, states_line, names, text}
-use Rattle.writer.specs.declared.marking.Mark.{Mark}
-use Rattle.writer.specs.declared.marking.Mark.TheVariants.{Terminal as ForTerminal, Close as ForClose}
+use Rattle.writer.specs.declared.marking.LineMark.{LineMark}
+use Rattle.writer.specs.declared.marking.LineMark.TheVariants.{Terminal as ForTerminal, Close as ForClose}
 
 -- Whether a byte of the marks has the mark: the bit 2, or the bit 4.
-abbrev pub has_mark : Mark → ℕ → Bool
+abbrev pub has_mark : LineMark → ℕ → Bool
 has_mark ForTerminal b = has_terminal b
 has_mark ForClose b = has_closed b
 
 -- The update that puts the mark on a state.
-abbrev pub marking : Mark → ℕ → Update
+abbrev pub marking : LineMark → ℕ → Update
 marking ForTerminal s = Terminal s
 marking ForClose s = Close s
 
@@ -27,10 +27,10 @@ in_order zero test update = []
 in_order (suc i) test update = in_order i test update ++ cond (test i) (update i ∷ []) []
 
 -- The states below n that have the mark, "by rising state".
-abbrev pub is_marked : Mark → List ℕ → ℕ → Bool
+abbrev pub is_marked : LineMark → List ℕ → ℕ → Bool
 is_marked k marks s = has_mark k (get_or marks s 0)
 
-abbrev pub marked_lines : Mark → ℕ → List ℕ → List Update
+abbrev pub marked_lines : LineMark → ℕ → List ℕ → List Update
 marked_lines k n marks = in_order n (is_marked k marks) (marking k)
 
 -- The first m listed steps, "in list order".

@@ -2,12 +2,12 @@
 -- Assumes nothing.
 use Rattle.std.specs.Prelude.{cond, List, [], ◌∷◌, ℕ, length}
 use Rattle.gid.specs.declared.Update.{Update}
-use Rattle.writer.specs.declared.marking.Mark.{Mark}
+use Rattle.writer.specs.declared.marking.LineMark.{LineMark}
 use Rattle.writer.specs.declared.source.Source.{Source}
 use Rattle.writer.specs.Order.{has_mark, marking, step_lines, record_of}
 
 -- The line of a state whose byte is b, where it has the mark.
-abbrev pub mark_line : Mark → ℕ → ℕ → List Update
+abbrev pub mark_line : LineMark → ℕ → ℕ → List Update
 mark_line k b s = cond (has_mark k b) (marking k s ∷ []) []
 
 -- The steps, and the record, of all that a source has.

@@ -4,12 +4,12 @@ ghost use Rattle.record.specs.Putting.{Puts};
 ghost use Rattle.writer.specs.Order.{marked_lines, bytes_of, head_bytes};
 ghost use Rattle.writer.specs.Sizing.{mark_line, listed_lines, source_record};
 
-use crate::marking::Mark;
+use crate::marking::LineMark;
 use crate::source::Source;
 use record::TextBuffer;
 
 // A state's line, where it has one.
-fn put_marked(text: &mut TextBuffer, mark: Mark, byte: u8, state: usize)
+fn put_marked(text: &mut TextBuffer, mark: LineMark, byte: u8, state: usize)
     requires { text.old.end + length (bytes_of (mark_line mark byte state)) ≤ length text.old.buf.now }
     ensures { Puts (bytes_of (mark_line mark byte state)) text.old text.new }
 {
@@ -18,8 +18,8 @@ fn put_marked(text: &mut TextBuffer, mark: Mark, byte: u8, state: usize)
     }
 }
 
-// "by rising state"
-fn put_marks(text: &mut TextBuffer, mark: Mark, marks: &[u8])
+// "by rising state". A loop by itself beside that of the steps, here and in sizes.rt: a state may have no line.
+fn put_marks(text: &mut TextBuffer, mark: LineMark, marks: &[u8])
     requires { text.old.end + length (bytes_of (marked_lines mark (length marks.now) marks.now)) ≤ length text.old.buf.now }
     ensures { Puts (bytes_of (marked_lines mark (length marks.now) marks.now)) text.old text.new }
 {
@@ -54,7 +54,7 @@ pub fn put_record(text: &mut TextBuffer, source: Source)
     ensures { Puts (source_record source.entry) text.old text.new }
 {
     put_head(text, source.marks.len());
-    put_marks(text, Mark::Terminal, source.marks);
+    put_marks(text, LineMark::Terminal, source.marks);
     put_steps(text, source);
-    put_marks(text, Mark::Close, source.marks);
+    put_marks(text, LineMark::Close, source.marks);
 }

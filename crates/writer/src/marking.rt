@@ -4,21 +4,21 @@ ghost use Rattle.writer.specs.Order.{has_mark, marking};
 
 use gid::Update;
 
-// "uses only the marks 2 and 4"
+// "uses only the marks 2 and 4": no line says that a state is named, so that these two have an enum beside the marks of a state.
 #[derive(Clone, Copy)]
-pub enum Mark {
+pub enum LineMark {
     Terminal,
     Close,
 }
 
-impl Mark {
+impl LineMark {
     // Whether a byte of the marks has it.
     pub fn is_set(self, byte: u8) -> bool
         ensures { result ≡ has_mark self byte }
     {
         match self {
-            Mark::Terminal => tables::Mark::Terminal.is_set(byte),
-            Mark::Close => tables::Mark::Closed.is_set(byte),
+            LineMark::Terminal => tables::Mark::Terminal.is_set(byte),
+            LineMark::Close => tables::Mark::Closed.is_set(byte),
         }
     }
 
@@ -27,8 +27,8 @@ impl Mark {
         ensures { result ≡ marking self state }
     {
         match self {
-            Mark::Terminal => Update::Terminal { state },
-            Mark::Close => Update::Close { state },
+            LineMark::Terminal => Update::Terminal { state },
+            LineMark::Close => Update::Close { state },
         }
     }
 }

@@ -6,7 +6,7 @@ ghost use Rattle.record.specs.declared.line.Form.TheVariants.{Keyed};
 ghost use Rattle.writer.specs.Order.{marked_lines, line_bytes, bytes_of};
 ghost use Rattle.writer.specs.Sizing.{mark_line, listed_lines, source_record};
 
-use crate::marking::Mark;
+use crate::marking::LineMark;
 use crate::source::Source;
 use gid::Update;
 
@@ -36,7 +36,7 @@ fn line_size(update: Update) -> usize
 }
 
 // The length of a state's line, 0 where it has none.
-fn mark_size(mark: Mark, byte: u8, state: usize) -> usize
+fn mark_size(mark: LineMark, byte: u8, state: usize) -> usize
     requires { state ≤ max_value }
     ensures { result ≡ length (bytes_of (mark_line mark byte state)) }
 {
@@ -47,7 +47,7 @@ fn mark_size(mark: Mark, byte: u8, state: usize) -> usize
     }
 }
 
-fn marks_size(mark: Mark, marks: &[u8]) -> usize
+fn marks_size(mark: LineMark, marks: &[u8]) -> usize
     requires { length marks.now ≤ max_states }
     ensures right { result ≡ length (bytes_of (marked_lines mark (length marks.now) marks.now)) }
     ensures bounded { result ≤ 20 * length marks.now }
@@ -74,8 +74,8 @@ fn steps_size(source: Source) -> usize
 pub fn record_size(source: Source) -> usize
     ensures { result ≡ length (source_record source.entry) }
 {
-    let terminals = marks_size(Mark::Terminal, source.marks);
+    let terminals = marks_size(LineMark::Terminal, source.marks);
     let steps = steps_size(source);
-    let closes = marks_size(Mark::Close, source.marks);
+    let closes = marks_size(LineMark::Close, source.marks);
     25 + digits(source.marks.len()) + terminals + steps + closes
 }

@@ -1,13 +1,12 @@
 -- A step of a drawing keeps where it stands. Nothing is to be written before the end.
 -- Assumes nothing.
-use Rattle.std.proofs.Common.{arith, ◌≡◌, ℕ}
+use Rattle.std.proofs.Common.{arith, ◌≡◌, ℕ, List}
 use Rattle.picture.specs.Progress.{reads, ends, DrawingProgress}
 use Rattle.picture.specs.declared.drawer.Drawer.{Drawer}
 use Rattle.reader.specs.declared.task.Task.TheVariants.{Write}
 use Rattle.tables.specs.Tables.{Tables}
 use Rattle.picture.proofs.Session.{progress_read}
 use Rattle.picture.proofs.Tasks.{draws_within}
-use Rattle.std.proofs.Common.{List}
 use Rattle.draw.proofs.DrawingDrive.go_on.Goals as goal
 
 no_write : {got piece output : List ℕ} {d : Drawer} {t : Tables} → DrawingProgress got d piece output t → d.task ≡ Write → ⊥

@@ -7,4 +7,8 @@ pub loop-p-preserved : goal.loop-p-preserved
 loop-p-preserved g c = record { can_next = tt; is_finite = tt; offering = λ ok t. offer_next c.in-Some.p (c.loop-p.invariant.offering ok t) c.in-Some.ensures.steps c.requires.visited_in_bounds c.requires.queue_in_bounds (rw c.from-y.ensures at (c.offer-span.ensures ok t)) }
 
 pub returns : goal.returns
-returns g c = λ ok t. let o = c.loop-p.invariant.offering ok t in (o.offers, offer_last o c.in-None.ensures.steps)
+returns g c =
+    record {
+      offers = λ ok t. (c.loop-p.invariant.offering ok t).offers;
+      sources_visited = λ ok t. offer_last (c.loop-p.invariant.offering ok t) c.in-None.ensures.steps;
+    }
