@@ -17,13 +17,19 @@ use Rattle.engine.specs.Preparing.{InRange, Storable}
 use Rattle.engine.proofs.Acting.{in_range_wider}
 use Rattle.engine.proofs.Promising.{room_of, passed_of, storable_of, lookable, listable, markable, walkable, lent_kept, sent_kept, full_kept, again_kept, done_of, done_kept}
 use Rattle.engine.proofs.Engine.update.Goals as goal
+use Rattle.engine.proofs.Engine.update.Goals.{In_ok-lent}
 
 -- What the tests 1 to 4 answered, of the tables as they came.
 answered : (g : Graph) (t : Tables) {l : Lengths} {n : ℕ} {b : Bool} {k : ℕ} → l ≡ lengths t → n ≡ nodes_of g → b ≡ enough (needs g.n n g.limit l) → k ≡ lent_number g b → lent_number g (long_enough g t) ≡ k
 answered g t e f q z = sym (rw (q, e, f) at z)
 
-room : (g : Graph) (t : Tables) {l : Lengths} {n : ℕ} {b : Bool} → l ≡ lengths t → n ≡ nodes_of g → b ≡ enough (needs g.n n g.limit l) → 0 ≡ lent_number g b → Room g.n g.n g.limit g.steps t
-room g t e f q z = room_of g t (answered g t e f q z)
+-- Where they found nothing.
+module _ (c : In_ok-lent) where
+  passed : lent_number c.args.self.now.graph (long_enough c.args.self.now.graph (contents c.args.tables.now)) ≡ 0
+  passed = answered _ _ c.lengths-lengths.ensures c.nodes.ensures c.enough.ensures c.in_ok-lent.ensures
+
+  room : let g = c.args.self.now.graph in Room g.n g.n g.limit g.steps (contents c.args.tables.now)
+  room = room_of _ _ passed
 
 -- What the tests 5, 14 and 6 leave, and the test 9.
 ranged : (g : Graph) (t : Tables) (x : Update) → 0 ≡ sent_number g t.marks x → InRange g.n x
@@ -38,48 +44,29 @@ returns-in_err-lent-clause-promise c =
     rw e (lent_kept c.args.self.now.graph c.args.update (contents c.args.tables.now) c.in_err-lent.field-0.0 (answered _ _ c.lengths-lengths.ensures c.nodes.ensures c.enough.ensures c.in_err-lent.ensures))
 
 pub sent-requires : goal.sent-requires
-sent-requires c = (room _ (contents c.args.tables.now) c.lengths-lengths.ensures c.nodes.ensures c.enough.ensures c.in_ok-lent.ensures).long.marks
+sent-requires c = (room (goal.at.sent-requires c).In_ok-lent).long.marks
 
 pub returns-in_err-sent-clause-promise : goal.returns-in_err-sent-clause-promise
 returns-in_err-sent-clause-promise c =
     let e : c.from_residual-in_err-sent.result ≡ Err c.in_err-sent.field-0.0 = search rules in
-    rw e (sent_kept c.args.self.now.graph c.args.update (contents c.args.tables.now) (answered _ _ c.lengths-lengths.ensures c.nodes.ensures c.enough.ensures c.in_ok-lent.ensures) c.in_err-sent.field-0.0 (sym c.in_err-sent.ensures))
+    rw e (sent_kept c.args.self.now.graph c.args.update (contents c.args.tables.now) (passed (goal.at.returns-in_err-sent-clause-promise c).In_ok-lent) c.in_err-sent.field-0.0 (sym c.in_err-sent.ensures))
 
 pub invariant_of-steps : goal.invariant_of-steps
 invariant_of-steps c =
     let t = contents c.args.tables.now in
-    let l = (lookable _ c.args.update t (room _ t c.lengths-lengths.ensures c.nodes.ensures c.enough.ensures c.in_ok-lent.ensures) (ranged _ t c.args.update c.in_ok-sent.ensures)).1 in
+    let l = (lookable _ c.args.update t (room (goal.at.invariant_of-steps c).In_ok-lent) (ranged _ t c.args.update c.in_ok-sent.ensures)).1 in
     record { from_in_bounds = l.0; to_in_bounds = l.1; key_in_bounds = l.2 }
 
-pub comes_again-requires-clause-in_range : goal.comes_again-requires-clause-in_range
-comes_again-requires-clause-in_range c =
+pub comes_again-requires : goal.comes_again-requires
+comes_again-requires c =
     let t = contents c.args.tables.now in
-    (lookable _ c.args.update t (room _ t c.lengths-lengths.ensures c.nodes.ensures c.enough.ensures c.in_ok-lent.ensures) (ranged _ t c.args.update c.in_ok-sent.ensures)).0.0
-
-pub comes_again-requires-clause-marks_in_bounds : goal.comes_again-requires-clause-marks_in_bounds
-comes_again-requires-clause-marks_in_bounds c =
-    let t = contents c.args.tables.now in
-    (lookable _ c.args.update t (room _ t c.lengths-lengths.ensures c.nodes.ensures c.enough.ensures c.in_ok-lent.ensures) (ranged _ t c.args.update c.in_ok-sent.ensures)).0.1
-
-pub comes_again-requires-clause-source_in_bounds : goal.comes_again-requires-clause-source_in_bounds
-comes_again-requires-clause-source_in_bounds c =
-    let t = contents c.args.tables.now in
-    (lookable _ c.args.update t (room _ t c.lengths-lengths.ensures c.nodes.ensures c.enough.ensures c.in_ok-lent.ensures) (ranged _ t c.args.update c.in_ok-sent.ensures)).0.2
-
-pub comes_again-requires-clause-chain_in_bounds : goal.comes_again-requires-clause-chain_in_bounds
-comes_again-requires-clause-chain_in_bounds c =
-    let t = contents c.args.tables.now in
-    (lookable _ c.args.update t (room _ t c.lengths-lengths.ensures c.nodes.ensures c.enough.ensures c.in_ok-lent.ensures) (ranged _ t c.args.update c.in_ok-sent.ensures)).1.3
-
-pub comes_again-requires-clause-steps_fit : goal.comes_again-requires-clause-steps_fit
-comes_again-requires-clause-steps_fit c =
-    let t = contents c.args.tables.now in
-    (lookable _ c.args.update t (room _ t c.lengths-lengths.ensures c.nodes.ensures c.enough.ensures c.in_ok-lent.ensures) (ranged _ t c.args.update c.in_ok-sent.ensures)).1.4
+    let l = lookable _ c.args.update t (room (goal.at.comes_again-requires c).In_ok-lent) (ranged _ t c.args.update c.in_ok-sent.ensures) in
+    record { in_range = l.0.0; marks_in_bounds = l.0.1; source_in_bounds = l.0.2; chain_in_bounds = l.1.3; steps_fit = l.1.4 }
 
 pub name_again-requires : goal.name_again-requires
 name_again-requires c =
     let t = contents c.args.tables.now in
-    let r = (room _ t c.lengths-lengths.ensures c.nodes.ensures c.enough.ensures c.in_ok-lent.ensures).long in
+    let r = (room (goal.at.name_again-requires c).In_ok-lent).long in
     let h = ranged _ t c.args.update c.in_ok-sent.ensures in
     (in_range_wider _ (length t.status) c.args.update r.status h, in_range_wider _ (length t.marks) c.args.update r.marks h)
 
@@ -87,58 +74,36 @@ pub returns-then-comes_again-clause-promise : goal.returns-then-comes_again-clau
 returns-then-comes_again-clause-promise c =
     let t = contents c.args.tables.now in
     rw (c.name_again.ensures.0, c.name_again.ensures.1)
-    (again_kept _ c.args.update t (answered _ t c.lengths-lengths.ensures c.nodes.ensures c.enough.ensures c.in_ok-lent.ensures) (sym c.in_ok-sent.ensures) (sym c.comes_again.ensures ∙ c.if-comes_again.true))
+    (again_kept _ c.args.update t (passed (goal.at.returns-then-comes_again-clause-promise c).In_ok-lent) (sym c.in_ok-sent.ensures) (sym c.comes_again.ensures ∙ c.if-comes_again.true))
 
 pub returns-in_err-has_place-clause-promise : goal.returns-in_err-has_place-clause-promise
 returns-in_err-has_place-clause-promise c =
     let t = contents c.args.tables.now in
     let e : c.from_residual-in_err-has_place.result ≡ Err c.in_err-has_place.field-0.0 = search rules in
-    rw e (full_kept _ c.args.update t (answered _ t c.lengths-lengths.ensures c.nodes.ensures c.enough.ensures c.in_ok-lent.ensures) (sym c.in_ok-sent.ensures) c.in_err-has_place.field-0.0 (sym c.comes_again.ensures ∙ c.if-comes_again.false) (sym c.in_err-has_place.ensures))
+    rw e (full_kept _ c.args.update t (passed (goal.at.returns-in_err-has_place-clause-promise c).In_ok-lent) (sym c.in_ok-sent.ensures) c.in_err-has_place.field-0.0 (sym c.comes_again.ensures ∙ c.if-comes_again.false) (sym c.in_err-has_place.ensures))
 
-pub list-requires-clause-in_range : goal.list-requires-clause-in_range
-list-requires-clause-in_range c =
+pub list-requires : goal.list-requires
+list-requires c =
     let t = contents c.args.tables.now in
-    let r = room _ t c.lengths-lengths.ensures c.nodes.ensures c.enough.ensures c.in_ok-lent.ensures in
+    let r = room (goal.at.list-requires c).In_ok-lent in
     let l = listable r c.args.update (storable _ t c.args.update r c.in_ok-sent.ensures c.in_ok-has_place.ensures) in
-    (l.0.0, l.0.1, l.0.2)
-
-pub list-requires-clause-key_fits : goal.list-requires-clause-key_fits
-list-requires-clause-key_fits c =
-    let t = contents c.args.tables.now in
-    let r = room _ t c.lengths-lengths.ensures c.nodes.ensures c.enough.ensures c.in_ok-lent.ensures in
-    let l = listable r c.args.update (storable _ t c.args.update r c.in_ok-sent.ensures c.in_ok-has_place.ensures) in
-    l.0.4
-
-pub list-requires-clause-place_fits : goal.list-requires-clause-place_fits
-list-requires-clause-place_fits c =
-    let t = contents c.args.tables.now in
-    let r = room _ t c.lengths-lengths.ensures c.nodes.ensures c.enough.ensures c.in_ok-lent.ensures in
-    let l = listable r c.args.update (storable _ t c.args.update r c.in_ok-sent.ensures c.in_ok-has_place.ensures) in
-    l.0.3
-
-pub list-requires-clause-free : goal.list-requires-clause-free
-list-requires-clause-free c =
-    let t = contents c.args.tables.now in
-    let r = room _ t c.lengths-lengths.ensures c.nodes.ensures c.enough.ensures c.in_ok-lent.ensures in
-    let l = listable r c.args.update (storable _ t c.args.update r c.in_ok-sent.ensures c.in_ok-has_place.ensures) in
-    l.1
+    record { in_range = (l.0.0, l.0.1, l.0.2); key_fits = l.0.4; place_fits = l.0.3; free = l.1 }
 
 pub mark-requires : goal.mark-requires
 mark-requires c =
     let t = contents c.args.tables.now in
-    let r = room _ t c.lengths-lengths.ensures c.nodes.ensures c.enough.ensures c.in_ok-lent.ensures in
+    let r = room (goal.at.mark-requires c).In_ok-lent in
     markable r c.args.update (storable _ t c.args.update r c.in_ok-sent.ensures c.in_ok-has_place.ensures)
 
 pub after-self-requires : goal.after-self-requires
 after-self-requires c =
-    let t = contents c.args.tables.now in
-    let r = room _ t c.lengths-lengths.ensures c.nodes.ensures c.enough.ensures c.in_ok-lent.ensures in
+    let r = room (goal.at.after-self-requires c).In_ok-lent in
     omega (arith, r.steps, r.bound)
 
 pub invariant_of-arcs : goal.invariant_of-arcs
 invariant_of-arcs c =
     let t = contents c.args.tables.now in
-    let r = room _ t c.lengths-lengths.ensures c.nodes.ensures c.enough.ensures c.in_ok-lent.ensures in
+    let r = room (goal.at.invariant_of-arcs c).In_ok-lent in
     let m = c.list.new in
     let k = c.list.auto in
     record { walkable = walkable r c.args.update (storable _ t c.args.update r c.in_ok-sent.ensures c.in_ok-has_place.ensures) t.from t.in_head t.in_next m.from m.in_head m.in_next r.long.from r.long.in_head r.long.in_next k.from k.in_head k.in_next (ap (λ (g : Graph). g.steps) c.after-self.ensures) }
@@ -146,50 +111,28 @@ invariant_of-arcs c =
 pub invariant_of-arcs-2 : goal.invariant_of-arcs-2
 invariant_of-arcs-2 c =
     let t = contents c.args.tables.now in
-    let r = room _ t c.lengths-lengths.ensures c.nodes.ensures c.enough.ensures c.in_ok-lent.ensures in
+    let r = room (goal.at.invariant_of-arcs-2 c).In_ok-lent in
     let m = c.list.new in
     let k = c.list.auto in
     record { walkable = walkable r c.args.update (storable _ t c.args.update r c.in_ok-sent.ensures c.in_ok-has_place.ensures) t.to t.out_head t.out_next m.to m.out_head m.out_next r.long.to r.long.out_head r.long.out_next k.to k.out_head k.out_next (ap (λ (g : Graph). g.steps) c.after-self.ensures) }
 
-pub judge-requires-clause-in_range : goal.judge-requires-clause-in_range
-judge-requires-clause-in_range c =
-    let t = contents c.args.tables.now in
-    ranged _ t c.args.update c.in_ok-sent.ensures
-
-pub judge-requires-clause-n_fits : goal.judge-requires-clause-n_fits
-judge-requires-clause-n_fits c =
-    let t = contents c.args.tables.now in
-    (room _ t c.lengths-lengths.ensures c.nodes.ensures c.enough.ensures c.in_ok-lent.ensures).states
-
-pub judge-requires-clause-status_in_bounds : goal.judge-requires-clause-status_in_bounds
-judge-requires-clause-status_in_bounds c =
-    let t = contents c.args.tables.now in
-    rw c.mark.auto.status (room _ t c.lengths-lengths.ensures c.nodes.ensures c.enough.ensures c.in_ok-lent.ensures).long.status
-
-pub judge-requires-clause-successor_in_bounds : goal.judge-requires-clause-successor_in_bounds
-judge-requires-clause-successor_in_bounds c =
-    let t = contents c.args.tables.now in
-    (room _ t c.lengths-lengths.ensures c.nodes.ensures c.enough.ensures c.in_ok-lent.ensures).long.successor
-
-pub judge-requires-clause-queue_in_bounds : goal.judge-requires-clause-queue_in_bounds
-judge-requires-clause-queue_in_bounds c =
-    let t = contents c.args.tables.now in
-    (room _ t c.lengths-lengths.ensures c.nodes.ensures c.enough.ensures c.in_ok-lent.ensures).long.queue
-
-pub judge-requires-clause-visited_in_bounds : goal.judge-requires-clause-visited_in_bounds
-judge-requires-clause-visited_in_bounds c =
-    let t = contents c.args.tables.now in
-    (room _ t c.lengths-lengths.ensures c.nodes.ensures c.enough.ensures c.in_ok-lent.ensures).long.visited
-
-pub judge-requires-clause-news_in_bounds : goal.judge-requires-clause-news_in_bounds
-judge-requires-clause-news_in_bounds c =
-    let t = contents c.args.tables.now in
-    (room _ t c.lengths-lengths.ensures c.nodes.ensures c.enough.ensures c.in_ok-lent.ensures).news
+pub judge-requires : goal.judge-requires
+judge-requires c =
+    let r = room (goal.at.judge-requires c).In_ok-lent in
+    record {
+      in_range = ranged _ (contents c.args.tables.now) c.args.update c.in_ok-sent.ensures;
+      n_fits = r.states;
+      status_in_bounds = rw c.mark.auto.status r.long.status;
+      successor_in_bounds = r.long.successor;
+      news_in_bounds = r.news;
+      queue_in_bounds = r.long.queue;
+      visited_in_bounds = r.long.visited;
+    }
 
 pub returns-clause-promise : goal.returns-clause-promise
 returns-clause-promise c =
     let t = contents c.args.tables.now in
     let e = c.after-self.ensures in
     rw e
-    (done_kept _ c.args.update t (answered _ t c.lengths-lengths.ensures c.nodes.ensures c.enough.ensures c.in_ok-lent.ensures) (sym c.in_ok-sent.ensures) (sym c.comes_again.ensures ∙ c.if-comes_again.false) (sym c.in_ok-has_place.ensures)
+    (done_kept _ c.args.update t (passed (goal.at.returns-clause-promise c).In_ok-lent) (sym c.in_ok-sent.ensures) (sym c.comes_again.ensures ∙ c.if-comes_again.false) (sym c.in_ok-has_place.ensures)
     (done_of t _ c.args.update c.mark.ensures.1 c.list.ensures refl c.mark.ensures.0 (rw e at c.judge.ensures)))
