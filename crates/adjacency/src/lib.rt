@@ -41,7 +41,7 @@ pub struct BothWays<'a> {
 // A walk over the steps at a state, by their indices.
 #[derive(Drop)]
 pub struct Walk<'a> {
-    // 1 + the index of the step where the walk stands, or 0 at its end, as the lent tables have it.
+    // 1 + the index of the step where the walk stands, or 0 at its end: an entry of the lent tables, as `first_at` and `next_at` answer it.
     at: usize,
     next: &'a [u16],
 }

@@ -9,6 +9,7 @@ use native.Mathlib.Omega.{arith}
 use native.Mathlib.Numerals.{add-one}
 use native.Mathlib.Decide.{ℕ_discrete}
 use lib.ListN.{length, get_or, set, take, drop, replicate}
+use Rattle.adjacency.specs.Chains.{Chains}
 use Rattle.std.specs.Bool.{Decides}
 use Rattle.std.specs.Str.{bytes_eq}
 use Rattle.std.proofs.lemmas.List.{length-take-le, get_or-take}
@@ -84,3 +85,7 @@ module _ {n m : ℕ} {ends head next last₀ last₁ last : List ℕ} (w : n ≤
         );
         kept = kept_trans (emptied w z) f.kept;
       }
+
+-- What equal chains have in common.
+pub same_chains : {a b : Chains} → a ≡ b → record { n : a.n ≡ b.n; m : a.m ≡ b.m; ends : a.ends ≡ b.ends; head : a.head ≡ b.head; next : a.next ≡ b.next }
+same_chains e = record { n = ap (λ (c : Chains). c.n) e; m = ap (λ (c : Chains). c.m) e; ends = ap (λ (c : Chains). c.ends) e; head = ap (λ (c : Chains). c.head) e; next = ap (λ (c : Chains). c.next) e }

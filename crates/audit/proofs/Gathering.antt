@@ -174,3 +174,7 @@ module _ {n : ℕ} {P Q : Type 0} {v q v' q' : List ℕ} {r : Bool} (first : Ans
         visits = first.visits;
         queues = first.queues;
       }
+
+-- What a check leaves in its work tables, as their lender has it.
+pub answered_lent : {n : ℕ} {P : Type 0} {visited queue visited' queue' v q : List ℕ} {r : Bool} → Answered n P visited queue visited' queue' r → v ≡ visited' → q ≡ queue' → Answered n P visited queue v q r
+answered_lent a v q = rw (v, q) a

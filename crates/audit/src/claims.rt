@@ -1,15 +1,18 @@
 // Whether what a status claims is so: a live state reaches a terminal one, and the successors of an unknown one lead to an open one.
+// The stored tables and the work tables go beside each other, over as many nodes: a spread is lent the work tables alone, and a test the stored ones, so that a struct of both would be taken apart for each call. That no state is visited holds before each of the two claims, and not within one.
 ghost use Rattle.std.specs.Prelude.{◌≡◌, ◌↔◌, true, ℕ, ◌≤◌, ◌<◌, length};
 ghost use Rattle.tables.specs.Tables.{visited_length};
 ghost use Rattle.tables.specs.Visits.{NoneVisited};
 ghost use Rattle.search.specs.Spreading.{Mode, allowed, Tells};
+ghost use Rattle.search.specs.Working.{SameWorklist};
 ghost use Rattle.audit.specs.Contents.{arcs_of};
 ghost use Rattle.audit.specs.Facts.{All, starts, starts_at, covered, Backs};
 ghost use Rattle.audit.specs.Parts.{Answered, Claims, Gathered};
 
 use super::stored::Stored;
-use search::spread::{Span, admit, spread};
-use tables::{LIVE, Mark, OPEN, UNKNOWN, is_visited, visited_len};
+use search::spread::Span;
+use search::worklist::Worklist;
+use tables::{LIVE, Mark, OPEN, UNKNOWN, visited_len};
 
 // Whether the live states reach a terminal one, and the unknown states escape.
 pub fn claims_fit(stored: Stored, queue: &mut [u16], visited: &mut [u16]) -> bool
@@ -22,8 +25,13 @@ pub fn claims_fit(stored: Stored, queue: &mut [u16], visited: &mut [u16]) -> boo
     let live = |y: usize, _: usize| stored.status[y] == LIVE;
     let by_successor = |y: usize, p: usize| stored.status[y] == UNKNOWN
         && usize::from(stored.successor[y]) == p;
-    claimed(LIVE, live, stored, queue, visited)
-        && claimed(UNKNOWN, by_successor, stored, queue, visited)
+    let mut work = Worklist {
+        n: stored.n,
+        span: Span::none(stored.n),
+        queue,
+        visited,
+    };
+    claimed(LIVE, live, stored, &mut work) && claimed(UNKNOWN, by_successor, stored, &mut work)
 }
 
 // Visits all that is allowed from the starts of a verdict, by one spread, and says whether each state with that verdict is visited. It
@@ -32,44 +40,39 @@ fn claimed<F: Fn(usize, usize) -> bool>(
     verdict: u8,
     allows: F,
     stored: Stored,
-    queue: &mut [u16],
-    visited: &mut [u16],
+    work: &mut Worklist,
 ) -> bool
     requires callable { (y p : ℕ) → y < stored.n → F.pre allows y p }
     requires tells { (mode : Mode) × Tells stored.n (F.post allows) (allowed mode stored.status.now stored.successor.now) }
-    requires none_visited { NoneVisited stored.n visited.old }
-    requires queue_in_bounds { stored.n ≤ length queue.old }
-    requires visited_in_bounds { visited_length stored.n ≤ length visited.old }
-    ensures { (mode : Mode) → Tells stored.entry.n (F.post allows) (allowed mode stored.entry.status.now stored.entry.successor.now) →
+    requires same_nodes { work.old.n ≡ stored.n }
+    requires none_visited { NoneVisited stored.n work.old.visited.now }
+    ensures same { SameWorklist work.old work.new }
+    ensures answered { (mode : Mode) → Tells stored.entry.n (F.post allows) (allowed mode stored.entry.status.now stored.entry.successor.now) →
         Answered stored.entry.n (Backs stored.entry.n (arcs_of stored.entry) mode verdict stored.entry.status.now stored.entry.marks.now stored.entry.successor.now)
-        visited.old queue.old visited.new queue.new result }
+        work.old.visited.now work.old.queue.now work.new.visited.now work.new.queue.now result }
 {
-    let found = gather(verdict, stored, queue, visited);
-    spread(allows, found, stored.into(), queue, visited);
-    let all = all_covered(verdict, stored, visited);
-    visited[..visited_len(stored.n)].fill(0);
+    gather(verdict, stored, work);
+    let arcs = stored.both_ways();
+    work.spread(allows, arcs.into);
+    let all = all_covered(verdict, stored, work);
+    work.visited[..visited_len(stored.n)].fill(0);
     all
 }
 
 // Queues and visits the starts of a verdict, where none is visited before.
-fn gather(verdict: u8, stored: Stored, queue: &mut [u16], visited: &mut [u16]) -> Span
-    requires none_visited { NoneVisited stored.n visited.old }
-    requires queue_in_bounds { stored.n ≤ length queue.old }
-    requires visited_in_bounds { visited_length stored.n ≤ length visited.old }
-    ensures { Gathered stored.entry.n stored.entry.n (starts_at verdict stored.entry.status.now stored.entry.marks.now)
-        visited.old queue.old visited.new queue.new result }
+fn gather(verdict: u8, stored: Stored, work: &mut Worklist)
+    requires same_nodes { work.old.n ≡ stored.n }
+    requires none_visited { NoneVisited stored.n work.old.visited.now }
+    ensures same { SameWorklist work.old work.new }
+    ensures gathered { Gathered stored.entry.n stored.entry.n (starts_at verdict stored.entry.status.now stored.entry.marks.now)
+        work.old.visited.now work.old.queue.now work.new.visited.now work.new.queue.now work.new.span }
 {
-    let mut span = Span {
-        len: 0,
-        low: stored.n,
-        high: 0,
-    };
+    work.span = Span::none(stored.n);
     for s in 0..stored.n {
         if starts(verdict, stored.status[s], stored.marks[s]) {
-            span = admit(span, s, queue, visited);
+            work.admit(s);
         }
     }
-    span
 }
 
 // Whether a state is a start: for live a terminal state, for another verdict an open one. The verdict is a parameter here: a closure for each
@@ -86,10 +89,10 @@ fn starts(verdict: u8, status: u8, mark: u8) -> bool
 }
 
 // Whether each state with the verdict is visited.
-#[tactic(auto, unfolding(crate::specs::Facts::covered, tables::specs::Tables::visited_length))]
-fn all_covered(verdict: u8, stored: Stored, visited: &[u16]) -> bool
-    requires { visited_length stored.n ≤ length visited.now }
-    ensures { (result ≡ true) ↔ All stored.entry.n (covered verdict stored.entry.status.now visited.now) }
+#[tactic(auto, unfolding(crate::specs::Facts::covered))]
+fn all_covered(verdict: u8, stored: Stored, work: &Worklist) -> bool
+    requires { work.now.n ≡ stored.n }
+    ensures { (result ≡ true) ↔ All stored.entry.n (covered verdict stored.entry.status.now work.now.visited.now) }
 {
-    (0..stored.n).all(|s| stored.status[s] != verdict || is_visited(visited, s))
+    (0..stored.n).all(|s| stored.status[s] != verdict || work.has_visited(s))
 }

@@ -10,68 +10,87 @@ ghost use Rattle.audit.specs.Parts.{Below, Apart, ApartAll, ApartKeys, FromSourc
 use adjacency::Adjacency;
 use tables::{has_bit, with_bit};
 
-// The ranges of keys start here: numbers, and no kinds.
+// The ranges of keys start here: numbers, which are subtracted from a key, so that an enum of them would be turned back into them. Where a range starts is a parameter of what looks at it, and no field: both ranges are
+// of the same steps.
 const LOW: u8 = 0;
 
 const HIGH: u8 = 16;
 
-pub fn steps_differ(arcs: Adjacency, key: &[u8], seen: &mut [u16]) -> bool
-    requires key_in_bounds { arcs.steps ≤ length key.now }
-    requires seen_in_bounds { arcs.n ≤ length seen.old }
-    requires ends_below { Below arcs.n arcs.steps arcs.ends.now }
-    ensures { Differ arcs.entry.n (ApartKeys arcs.entry.n (into (chains_of arcs.entry)) key.now) seen.old seen.new result }
-{
-    seen[..arcs.n].fill(0);
-    range_differs(LOW, arcs, key, seen) && range_differs(HIGH, arcs, key, seen)
+// The listed steps, chained at their targets, with their keys. The table of what is noted is lent beside them: it is written, and as a field
+// each method would have to promise that it is still the one lent.
+#[derive(Clone, Copy)]
+pub struct KeyedSteps<'a> {
+    pub arcs: Adjacency<'a>,
+    pub key: &'a [u8],
+    pub ghost key_in_bounds: { arcs.steps ≤ length key.now },
+    pub ghost ends_below: { Below arcs.n arcs.steps arcs.ends.now },
 }
 
-// No two steps whose keys are in a range are equal.
-fn range_differs(base: u8, arcs: Adjacency, key: &[u8], seen: &mut [u16]) -> bool
-    requires key_in_bounds { arcs.steps ≤ length key.now }
-    requires seen_in_bounds { arcs.n ≤ length seen.old }
-    requires ends_below { Below arcs.n arcs.steps arcs.ends.now }
-    requires blank { AllBelow arcs.n 0 seen.old }
-    ensures { Differ arcs.entry.n (ApartAll base arcs.entry.n (into (chains_of arcs.entry)) key.now) seen.old seen.new result }
-{
-    for v in 0..arcs.n {
-        if !sources_differ(base, arcs, v, key, seen) {
+impl KeyedSteps<'_> {
+    // Whether no two are equal: a table that is emptied first, and both ranges.
+    pub fn steps_differ(self, seen: &mut [u16]) -> bool
+        requires { self.arcs.n ≤ length seen.old }
+        ensures { Differ self.entry.arcs.n (ApartKeys self.entry.arcs.n (into (chains_of self.entry.arcs)) self.entry.key.now) seen.old seen.new result }
+    {
+        seen[..self.arcs.n].fill(0);
+        self.range_differs(LOW, seen) && self.range_differs(HIGH, seen)
+    }
+
+    // No two steps whose keys are in a range are equal.
+    fn range_differs(self, base: u8, seen: &mut [u16]) -> bool
+        requires seen_in_bounds { self.arcs.n ≤ length seen.old }
+        requires blank { AllBelow self.arcs.n 0 seen.old }
+        ensures { Differ self.entry.arcs.n (ApartAll base self.entry.arcs.n (into (chains_of self.entry.arcs)) self.entry.key.now) seen.old seen.new result }
+    {
+        for v in 0..self.arcs.n {
+            if !self.sources_differ(base, v, seen) {
+                return false;
+            }
+        }
+        true
+    }
+
+    // Nor are two such steps into v. Then no entry is left marked.
+    fn sources_differ(self, base: u8, v: usize, seen: &mut [u16]) -> bool
+        requires in_range { v < self.arcs.n }
+        requires seen_in_bounds { self.arcs.n ≤ length seen.old }
+        requires blank { AllBelow self.arcs.n 0 seen.old }
+        ensures { Differ self.entry.arcs.n (Apart base (into (chains_of self.entry.arcs)) self.entry.key.now v) seen.old seen.new result }
+    {
+        if !self.note_sources(base, v, seen) {
             return false;
         }
+        self.clear_sources(v, seen);
+        true
     }
-    true
-}
 
-// Nor are two such steps into v. Then no entry is left marked.
-fn sources_differ(base: u8, arcs: Adjacency, v: usize, key: &[u8], seen: &mut [u16]) -> bool
-    requires in_range { v < arcs.n }
-    requires key_in_bounds { arcs.steps ≤ length key.now }
-    requires seen_in_bounds { arcs.n ≤ length seen.old }
-    requires ends_below { Below arcs.n arcs.steps arcs.ends.now }
-    requires blank { AllBelow arcs.n 0 seen.old }
-    ensures { Differ arcs.entry.n (Apart base (into (chains_of arcs.entry)) key.now v) seen.old seen.new result }
-{
-    if !note_sources(base, arcs, v, key, seen) {
-        return false;
+    // Notes the steps into v, up to one that is equal to one before.
+    fn note_sources(self, base: u8, v: usize, seen: &mut [u16]) -> bool
+        requires in_range { v < self.arcs.n }
+        requires seen_in_bounds { self.arcs.n ≤ length seen.old }
+        requires blank { AllBelow self.arcs.n 0 seen.old }
+        ensures { SourcesNoted base self.entry.arcs.n (into (chains_of self.entry.arcs)) self.entry.key.now v seen.old seen.new result }
+    {
+        for p in self.arcs.steps_at(v) {
+            if !note(base, usize::from(self.arcs.ends[p]), self.key[p], seen) {
+                return false;
+            }
+        }
+        true
     }
-    clear_sources(arcs, v, seen);
-    true
-}
 
-// Notes the steps into v, up to one that is equal to one before.
-fn note_sources(base: u8, arcs: Adjacency, v: usize, key: &[u8], seen: &mut [u16]) -> bool
-    requires in_range { v < arcs.n }
-    requires key_in_bounds { arcs.steps ≤ length key.now }
-    requires seen_in_bounds { arcs.n ≤ length seen.old }
-    requires ends_below { Below arcs.n arcs.steps arcs.ends.now }
-    requires blank { AllBelow arcs.n 0 seen.old }
-    ensures { SourcesNoted base arcs.entry.n (into (chains_of arcs.entry)) key.now v seen.old seen.new result }
-{
-    for p in arcs.steps_at(v) {
-        if !note(base, usize::from(arcs.ends[p]), key[p], seen) {
-            return false;
+    // Clears what is noted of the steps into v.
+    fn clear_sources(self, v: usize, seen: &mut [u16])
+        requires in_range { v < self.arcs.n }
+        requires seen_in_bounds { self.arcs.n ≤ length seen.old }
+        requires from_sources { FromSources self.arcs.n (into (chains_of self.arcs)) v seen.old }
+        ensures blank { AllBelow self.entry.arcs.n 0 seen.new }
+        ensures kept { Kept self.entry.arcs.n seen.old seen.new }
+    {
+        for p in self.arcs.steps_at(v) {
+            seen[usize::from(self.arcs.ends[p])] = 0;
         }
     }
-    true
 }
 
 // Notes a step from u with the key k, where k is in the range and no step like it is noted.
@@ -89,18 +108,4 @@ fn note(base: u8, u: usize, k: u8, seen: &mut [u16]) -> bool
     }
     seen[u] = with_bit(entry, bit);
     true
-}
-
-// Clears what is noted of the steps into v.
-fn clear_sources(arcs: Adjacency, v: usize, seen: &mut [u16])
-    requires in_range { v < arcs.n }
-    requires seen_in_bounds { arcs.n ≤ length seen.old }
-    requires ends_below { Below arcs.n arcs.steps arcs.ends.now }
-    requires from_sources { FromSources arcs.n (into (chains_of arcs)) v seen.old }
-    ensures blank { AllBelow arcs.entry.n 0 seen.new }
-    ensures kept { Kept arcs.entry.n seen.old seen.new }
-{
-    for p in arcs.steps_at(v) {
-        seen[usize::from(arcs.ends[p])] = 0;
-    }
 }

@@ -1,12 +1,12 @@
 // Whether tables that are long enough fit: states and steps by their entries, then the lists of steps, then that no two steps are
-// equal, then what the statuses claim.
+// equal, then what the statuses claim. The queue and the marks are lent by themselves down to where a search runs: the check of the lists writes the queue alone, as a table of its own.
 ghost use Rattle.std.specs.Prelude.{◌≡◌, ◌↔◌, true, List, [], ℕ, ◌≤◌, length};
 ghost use Rattle.tables.specs.Tables.{visited_length};
 ghost use Rattle.audit.specs.Contents.{contents};
 ghost use Rattle.audit.specs.Parts.{Below, EntriesFit, ListsJudged, Judged};
 
 use super::claims::claims_fit;
-use super::distinct::steps_differ;
+use super::distinct::KeyedSteps;
 use super::lists::list_fits;
 use super::states::states_fit;
 use super::steps::{keys_fit, steps_fit};
@@ -35,8 +35,12 @@ fn lists_fit(stored: Stored, queue: &mut [u16]) -> bool
     requires to_below { Below stored.n stored.steps stored.to.now }
     ensures { ListsJudged stored.entry.n stored.entry.steps (contents stored.entry [] queue.old []) queue.new result }
 {
-    let into = stored.into();
-    list_fits(stored.to, into, queue)
-        && list_fits(stored.from, stored.out_of(), queue)
-        && steps_differ(into, stored.key, queue)
+    let arcs = stored.both_ways();
+    let keyed = KeyedSteps {
+        arcs: arcs.into,
+        key: stored.key,
+    };
+    list_fits(stored.to, arcs.into, queue)
+        && list_fits(stored.from, arcs.out_of, queue)
+        && keyed.steps_differ(queue)
 }

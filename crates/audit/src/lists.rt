@@ -1,5 +1,5 @@
 // The lists of steps: whether heads and next entries are those of the step list. A work table holds, for each state, 1 + the last step met
-// so far with that end.
+// so far with that end. The two functions share their parameters: a struct of them would be made twice by their one caller, for one call each.
 ghost use Rattle.std.specs.Prelude.{◌≤◌, length};
 ghost use Rattle.tables.specs.Fitting.{AllBelow};
 ghost use Rattle.audit.specs.Parts.{Below, ListFits, NextsFit};

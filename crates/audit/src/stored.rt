@@ -1,7 +1,9 @@
 // The stored tables that a check reads, of any contents, long enough for their states and their listed steps.
 ghost use Rattle.std.specs.Prelude.{◌≡◌, ◌≤◌, ◌<◌, length};
+ghost use Rattle.adjacency.specs.Chains.{chains};
+ghost use Rattle.adjacency.specs.Adjacencies.{chains_of};
 
-use adjacency::Adjacency;
+use adjacency::{Adjacency, BothWays};
 
 #[derive(Clone, Copy)]
 pub struct Stored<'a> {
@@ -34,39 +36,26 @@ pub struct Stored<'a> {
 }
 
 impl<'a> Stored<'a> {
-    // Which fields go together is all that these two say, so each says it by itself.
-
-    // The listed steps, chained at their targets,
-    pub fn into(self) -> Adjacency<'a>
-        ensures n { result.n ≡ self.entry.n }
-        ensures steps { result.steps ≡ self.entry.steps }
-        ensures ends { result.ends.now ≡ self.entry.from.now }
-        ensures head { result.head.now ≡ self.entry.in_head.now }
-        ensures next { result.next.now ≡ self.entry.in_next.now }
+    // The listed steps, chained at their targets and at their sources.
+    pub fn both_ways(self) -> BothWays<'a>
+        ensures into { chains_of result.into ≡ chains self.entry.n self.entry.steps self.entry.from.now self.entry.in_head.now self.entry.in_next.now }
+        ensures out_of { chains_of result.out_of ≡ chains self.entry.n self.entry.steps self.entry.to.now self.entry.out_head.now self.entry.out_next.now }
     {
-        Adjacency {
-            n: self.n,
-            steps: self.steps,
-            ends: self.from,
-            head: self.in_head,
-            next: self.in_next,
-        }
-    }
-
-    // and at their sources.
-    pub fn out_of(self) -> Adjacency<'a>
-        ensures n { result.n ≡ self.entry.n }
-        ensures steps { result.steps ≡ self.entry.steps }
-        ensures ends { result.ends.now ≡ self.entry.to.now }
-        ensures head { result.head.now ≡ self.entry.out_head.now }
-        ensures next { result.next.now ≡ self.entry.out_next.now }
-    {
-        Adjacency {
-            n: self.n,
-            steps: self.steps,
-            ends: self.to,
-            head: self.out_head,
-            next: self.out_next,
+        BothWays {
+            into: Adjacency {
+                n: self.n,
+                steps: self.steps,
+                ends: self.from,
+                head: self.in_head,
+                next: self.in_next,
+            },
+            out_of: Adjacency {
+                n: self.n,
+                steps: self.steps,
+                ends: self.to,
+                head: self.out_head,
+                next: self.out_next,
+            },
         }
     }
 }

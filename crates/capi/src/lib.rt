@@ -13,7 +13,7 @@ use engine::Engine;
 use gid::{Edge, Update};
 use tables::{Graph, Lengths, LentTables, Refusal};
 
-// What a refusal adds to its number, so that it differs from every number of news and from every status.
+// The C interface: what a refusal adds to its number, so that it differs from every number of news and from every status.
 const REFUSED: u32 = 65536;
 
 // The update that a kind byte, two states and a key say, or none.
@@ -55,7 +55,7 @@ fn code(answer: Result<u32, Refusal>) -> u32
     }
 }
 
-// An update of the given kind (the byte E, T or C) on the caller's tables. Answers the number of its news, or 65,536 plus the number of its refusal; the number of steps is brought up to date.
+// An update of the given kind (the byte E, T or C) on the caller's tables, each of which the C interface lends by itself. Answers the number of its news, or 65,536 plus the number of its refusal; the number of steps is brought up to date.
 #[unsafe(no_mangle)]
 pub extern "C" fn radvoinis_update(
     n: usize,

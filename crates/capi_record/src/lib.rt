@@ -7,14 +7,16 @@ ghost use Rattle.query.specs.Answering.{answer_of};
 use reader::RECORD_LIMIT;
 use tables::{LentTables, MAX_STATES, MAX_VISITED};
 
-// "A refusal answers 16 plus its number".
+// The C interface: "A refusal answers 16 plus its number".
 const REFUSED: u8 = 16;
 
 // The status of a state after a record, 0 to 4, or 16 plus the number of the first refused line. "A state of 2,048 or more counts as refusal 5 and is tested first."
+#[tactic(auto, using(query::proofs::Asking::answer_opened), unfolding(tables::specs::Tables::visited_length))]
 #[unsafe(no_mangle)]
 pub extern "C" fn radvoinis_status(bytes: &[u8], state: u32) -> u8
     ensures { result ≡ answer_of bytes.now state }
 {
+    // The arrays are this function's own: the C interface hands over a record and a state, and no tables.
     let mut tables = LentTables {
         status: &mut [0; MAX_STATES],
         marks: &mut [0; MAX_STATES],

@@ -7,44 +7,17 @@ ghost use Rattle.tables.specs.Lending.{contents, StillLent};
 ghost use Rattle.reader.specs.Opening.{open_refusal};
 ghost use Rattle.reader.specs.Reading.{record_limit};
 ghost use Rattle.picture.specs.Picture.{picture_room};
-ghost use Rattle.picture.specs.Progress.{DrawingProgress};
 ghost use Rattle.draw.specs.Ending.{EndsDrawing};
 
 use picture::{Drawer, PICTURE_ROOM};
-use reader::{RECORD_LIMIT, Task};
+use reader::RECORD_LIMIT;
 use std::env::FillError;
 use std::rt::Env;
-use streams::{Drive, Streams};
+use streams::Streams;
 use tables::{LentTables, MAX_STATES, MAX_VISITED};
 
 // The bytes of the input that are read at once.
 const INPUT: usize = 65536;
-
-// What the program does with the bytes that it reads.
-#[derive(Clone, Copy)]
-struct Drawing {
-    drawer: Drawer,
-}
-
-impl Drive for Drawing {
-    ghost task = { λ s. s.drawer.task };
-
-    ghost end = { λ s. s.drawer.end };
-
-    ghost stands = { λ got put s piece output t. (picture_room ≤ length output) × DrawingProgress got s.drawer piece output t };
-
-    fn task(&self) -> Task {
-        self.drawer.task
-    }
-
-    fn end(&self) -> usize {
-        self.drawer.end
-    }
-
-    fn go_on(&mut self, piece: &[u8], output: &mut [u8], tables: &mut LentTables) {
-        self.drawer.draw(piece, output, tables);
-    }
-}
 
 // Where a drawing ended, and whether its last text was written. `EndsDrawing` speaks of both.
 #[derive(Clone, Copy)]
@@ -54,7 +27,7 @@ struct DrawingEnd {
 }
 
 fn main(rt: HostRuntime) {
-    // Counted by their bytes, since a word need not be text. Each program counts by itself: no contract could say what a call for it counts.
+    // Counted by their bytes, since a word need not be text. Each program counts by itself: `told_usage` is handed the number, of which its promise speaks, and a public function that counts would need a contract, which could not say what it counts.
     let words = (0..usize::MAX)
         .take_while(|&i| !matches!(rt.arg(i, &mut [0u8; 1]), Err(FillError::NotPresent)))
         .count();
@@ -76,7 +49,8 @@ fn main(rt: HostRuntime) {
     draw_record(&streams);
 }
 
-// The arrays are this function's own: one that made them for all programs would be handed what to do with them, with clauses for it, and the output would be out of sight.
+// The arrays are this function's own: one function for both programs would take what to do with them as a closure, with clauses for it.
+#[tactic(auto, unfolding(tables::specs::Tables::visited_length))]
 fn draw_record<R: Input + Print, E: Print>(streams: &Streams<R, E>) {
     draw_input(
         streams,
@@ -100,6 +74,7 @@ fn draw_record<R: Input + Print, E: Print>(streams: &Streams<R, E>) {
     );
 }
 
+// Draws the input, read to its end. Like `list_input` of the listing program in form alone: what is begun, what that asks for and what is promised of it (`EndsDrawing`) are its own, and what both do is `drive`.
 fn draw_input<R: Input + Print, E: Print>(
     streams: &Streams<R, E>,
     input: &mut [u8],
@@ -111,12 +86,7 @@ fn draw_input<R: Input + Print, E: Print>(
     ensures still_lent { StillLent tables.old tables.new }
     ensures ends { EndsDrawing result output.new (contents tables.new) }
 {
-    let mut drawing = Drawing {
-        drawer: Drawer::begin(tables),
-    };
-    let over = streams.drive(&mut drawing, input, output, tables);
-    DrawingEnd {
-        drawer: drawing.drawer,
-        over,
-    }
+    let mut drawer = Drawer::begin(tables);
+    let over = streams.drive(&mut drawer, input, output, tables);
+    DrawingEnd { drawer, over }
 }

@@ -95,16 +95,22 @@ module _ {n limit m : ℕ} {t : Tables} (room : Room n n limit m t) (x : Update)
   wider : (b : ℕ) → n ≤ b → InRange b x
   wider b h = in_range_wider n b x h (storable_range n limit m x s)
 
-  pub listable : (InRange 65536 x × InRange (length t.in_head) x × InRange (length t.out_head) x × (m < 65535) × KeyBelow 256 x) × (Free m x t.from × Free m x t.to × Free m x t.key × Free m x t.in_next × Free m x t.out_next)
+  pub listable : (InRange 65536 x × KeyBelow 256 x) × (Free m x t.from × Free m x t.to × Free m x t.key)
   listable =
       let free = storable_free n limit m x s in
       let l = room.long in (
-        (wider 65536 (omega (arith, room.states)), wider (length t.in_head) l.in_head, wider (length t.out_head) l.out_head, omega (arith, room.steps, room.bound), key_wider (max_key + 1) 256 x (omega arith) (storable_key n limit m x s)),
-        (free t.from l.from, free t.to l.to, free t.key l.key, free t.in_next l.in_next, free t.out_next l.out_next),
+        (wider 65536 (omega (arith, room.states)), key_wider (max_key + 1) 256 x (omega arith) (storable_key n limit m x s)),
+        (free t.from l.from, free t.to l.to, free t.key l.key),
       )
 
-  pub markable : InRange (length t.status) x × InRange (length t.marks) x
-  markable = (wider (length t.status) room.long.status, wider (length t.marks) room.long.marks)
+  pub chainable : (InRange (length t.in_head) x × InRange (length t.out_head) x) × (Free m x t.in_next × Free m x t.out_next) × (m < 65535)
+  chainable =
+      let free = storable_free n limit m x s in
+      let l = room.long in (
+        (wider (length t.in_head) l.in_head, wider (length t.out_head) l.out_head),
+        (free t.in_next l.in_next, free t.out_next l.out_next),
+        omega (arith, room.steps, room.bound),
+      )
 
   -- the number of steps with the update
   steps_most : m + length (step_of x) ≤ limit
@@ -127,12 +133,18 @@ module _ {n limit m : ℕ} {t : Tables} (room : Room n n limit m t) (x : Update)
 
 -- What the look for an earlier update asks for.
 pub lookable : (g : Graph) (x : Update) (t : Tables) → Room g.n (nodes_of g) g.limit g.steps t → InRange g.n x →
-    (InRange 65536 x × InRange (length t.marks) x × InRange (length t.out_head) x) ×
-    ((g.steps ≤ length t.from) × (g.steps ≤ length t.to) × (g.steps ≤ length t.key) × (g.steps ≤ length t.out_next) × (g.steps < 65536))
+    (InRange 65536 x × InRange (length t.marks) x) × ((g.steps ≤ length t.from) × (g.steps ≤ length t.to) × (g.steps ≤ length t.key)) ×
+    Walkable (chains g.n g.steps t.to t.out_head t.out_next)
 lookable g x t room r =
     let l = room.long in (
-      (in_range_wider g.n 65536 x (omega (arith, room.states)) r, in_range_wider g.n (length t.marks) x l.marks r, in_range_wider g.n (length t.out_head) x l.out_head r),
-      (omega (arith, room.steps, l.from), omega (arith, room.steps, l.to), omega (arith, room.steps, l.key), omega (arith, room.steps, l.out_next), omega (arith, room.steps, room.bound)),
+      (in_range_wider g.n 65536 x (omega (arith, room.states)) r, in_range_wider g.n (length t.marks) x l.marks r),
+      (omega (arith, room.steps, l.from), omega (arith, room.steps, l.to), omega (arith, room.steps, l.key)),
+      record {
+        few = omega (arith, room.steps, room.bound);
+        heads = l.out_head;
+        nexts = omega (arith, room.steps, l.out_next);
+        ends' = omega (arith, room.steps, l.to);
+      },
     )
 
 -- An update is done where its parts are.

@@ -28,6 +28,7 @@ impl Engine {
         let graph = self.graph;
         let lengths = tables.lengths();
         graph.lent(lengths.enough(graph.n, graph.nodes(), graph.limit))?;
+        // Each table as a local, since what follows is lent them one by one.
         let status = &mut *tables.status;
         let marks = &mut *tables.marks;
         let from = &mut *tables.from;
@@ -48,23 +49,22 @@ impl Engine {
             to,
             key,
         };
-        if accept::comes_again(update, marks, steps, out_head, out_next) {
+        let out = Adjacency {
+            n: graph.n,
+            steps: graph.steps,
+            ends: steps.to,
+            head: out_head,
+            next: out_next,
+        };
+        if accept::comes_again(update, marks, steps, out) {
             accept::name_again(update, status, marks);
             return Ok(0);
         }
         graph.has_place(update)?;
-        accept::list(
-            update,
-            graph.steps,
-            from,
-            to,
-            key,
-            in_head,
-            out_head,
-            in_next,
-            out_next,
-        );
-        accept::mark(update, status, marks);
+        accept::list(update, graph.steps, from, to, key);
+        accept::chain(update, graph.steps, in_head, out_head, in_next, out_next);
+        accept::name(update, status);
+        accept::mark(update, marks);
         self.graph = graph.after(update);
         let arcs = BothWays {
             into: Adjacency {

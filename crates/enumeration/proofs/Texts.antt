@@ -24,7 +24,7 @@ use Rattle.enumeration.specs.Small.{SmallUpdate}
 use Rattle.enumeration.specs.Ranking.{unranked, is_legal, rank_count}
 use Rattle.enumeration.specs.Lines.{comma_terminated, comma_separated, history_text}
 use Rattle.enumeration.specs.Sending.{StatusesAfter}
-use Rattle.enumeration.specs.Parts.{newest_of, older_of, history_room}
+use Rattle.enumeration.specs.Parts.{newest_of, older_of}
 use Rattle.enumeration.proofs.Ranking.{AllSmall, unranked_none, unranked_newest, unranked_short, unranked_small}
 use Rattle.enumeration.proofs.Listing.{small_ranked}
 use Rattle.enumeration.proofs.Accepting.{statuses_right}

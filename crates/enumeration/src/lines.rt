@@ -15,7 +15,7 @@ use record::TextBuffer;
 // The output's least length: a line has at most 27 bytes.
 pub const ROOM: usize = 16384;
 
-// Lists every small history at the front of the output, and answers the length of the text. An output that is too short gets none.
+// Lists every small history at the front of the output, and answers the length of the text. An output that is too short gets none, and the answer is the length of no text, 0, as `Enumerates` has it.
 pub fn enumerate(output: &mut [u8]) -> usize
     ensures { Enumerates output.old output.new result }
 {
@@ -62,6 +62,7 @@ fn put_history(line: &mut TextBuffer, rank: usize)
 }
 
 // The updates' lines, joined by commas, and a colon, which stands also where there is none: so it is no case of the recursion below.
+#[tactic(auto, using(crate::proofs::Texts::separated_none, crate::proofs::Texts::separated_room))]
 fn put_separated(line: &mut TextBuffer, rank: usize)
     requires { line.old.end + length (comma_separated (unranked rank)) < length line.old.buf.now }
     ensures { Puts (comma_separated (unranked rank) ++ (58 ∷ [])) line.old line.new }
@@ -74,6 +75,7 @@ fn put_separated(line: &mut TextBuffer, rank: usize)
 }
 
 // The updates' lines, each with a comma behind it.
+#[tactic(auto, using(crate::proofs::Texts::terminated_room))]
 fn put_terminated(line: &mut TextBuffer, rank: usize)
     requires { line.old.end + length (comma_terminated (unranked rank)) ≤ length line.old.buf.now }
     ensures { Puts (comma_terminated (unranked rank)) line.old line.new }

@@ -42,6 +42,7 @@ pub fn older(rank: usize) -> usize
 }
 
 // "A history is legal if no step and no terminal mark follows a close of its first state".
+#[tactic(auto, using(crate::proofs::Legality::legal_none, crate::proofs::Legality::legal_ranked))]
 pub fn is_legal(rank: usize) -> bool
     ensures { result ≡ is_legal (unranked rank) }
 {
@@ -59,6 +60,7 @@ fn may_follow(rank: usize, update: Update) -> bool
 }
 
 // Whether no update of a history closes a state.
+#[tactic(auto, using(crate::proofs::Legality::unclosed_none, crate::proofs::Legality::unclosed_ranked))]
 fn is_unclosed(rank: usize, state: usize) -> bool
     ensures { result ≡ not (is_closed (unranked rank) state) }
 {

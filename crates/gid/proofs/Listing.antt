@@ -11,6 +11,7 @@ use native.Mathlib.Decide.{ℕ_discrete}
 use lib.Dec.{eqb}
 use lib.ListN.{length, get_or, length-append, get_or-append}
 use lib.Seq.{get_or-append_seam}
+use Rattle.std.proofs.Math.Bool.{or-true, or_assoc}
 use Rattle.gid.specs.declared.Edge.{Edge}
 use Rattle.gid.specs.declared.Update.{Update}
 use Rattle.gid.specs.declared.Update.TheVariants.{Step, Terminal, Close}
@@ -44,20 +45,12 @@ pub at_in : (l : List Edge) (p : ℕ) → p < length l → is_in l (get_or l p (
 unfolding is_in
 at_in [] p k = absurd (omega arith)
 at_in (d ∷ l) zero k = rw ((decides_same d d).complete refl)
-at_in (d ∷ l) (suc p) k = rw (at_in l p (omega arith)) (or_true (is_same d (get_or l p (edge 0 0 0))))
-  where
-    or_true : (b : Bool) → b || true ≡ true
-    or_true true = refl
-    or_true false = refl
+at_in (d ∷ l) (suc p) k = rw (at_in l p (omega arith)) (or-true (is_same d (get_or l p (edge 0 0 0))))
 
 in_append : (l m : List Edge) (e : Edge) → is_in (l ++ m) e ≡ is_in l e || is_in m e
 unfolding is_in
 in_append [] m e = refl
-in_append (d ∷ l) m e = rw (in_append l m e) (assoc (is_same d e))
-  where
-    assoc : (b : Bool) → b || (is_in l e || is_in m e) ≡ (b || is_in l e) || is_in m e
-    assoc true = refl
-    assoc false = refl
+in_append (d ∷ l) m e = rw (in_append l m e) (sym (or_assoc (is_same d e) (is_in l e) (is_in m e)))
 
 -- A list and one step more.
 pub in_last : (l : List Edge) (d e : Edge) → Decides (is_in (l ++ (d ∷ [])) e) ((is_in l e ≡ true) ⊎ (d ≡ e))
@@ -66,13 +59,6 @@ in_last l d e =
     rw (in_append l (d ∷ []) e)
     (decides_or (is_in l e) (is_same d e || false) (record { sound = λ q. q; complete = λ q. q })
     (decides_iff (decides_or (is_same d e) false (decides_same d e) (decides_false (λ (q : ⊥). q))) (⊎_elim (λ q. q) (λ q. absurd q)) inl))
-
--- What a step adds where an equal one is listed, and where none is.
-pub adds_none : (l : List Edge) (e : Edge) → is_in l e ≡ true → added (is_in l) (Step e) ≡ []
-adds_none l e q = rw q
-
-pub adds_one : (l : List Edge) (e : Edge) → is_in l e ≡ false → added (is_in l) (Step e) ≡ e ∷ []
-adds_one l e q = rw q
 
 -- A step is listed exactly where it is one of the history's.
 pub decides_listed : (h : History) (e : Edge) → Decides (is_in (listed h) e) (Has h (Step e))

@@ -11,7 +11,7 @@ use std::rt::Env;
 use streams::{Served, Streams};
 
 fn main(rt: HostRuntime) {
-    // Counted by their bytes, since a word need not be text. Each program counts by itself: no contract could say what a call for it counts.
+    // Counted by their bytes, since a word need not be text. Each program counts by itself: `told_usage` is handed the number, of which its promise speaks, and a public function that counts would need a contract, which could not say what it counts.
     let words = (0..usize::MAX)
         .take_while(|&i| !matches!(rt.arg(i, &mut [0u8; 1]), Err(FillError::NotPresent)))
         .count();

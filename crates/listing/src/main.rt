@@ -7,46 +7,19 @@ ghost use Rattle.tables.specs.Lending.{contents, StillLent};
 ghost use Rattle.reader.specs.Opening.{open_refusal};
 ghost use Rattle.reader.specs.Reading.{record_limit};
 ghost use Rattle.report.specs.Lister.{lister_room};
-ghost use Rattle.report.specs.Progress.{ListingProgress};
 ghost use Rattle.listing.specs.Ending.{EndsListing};
 
-use reader::{RECORD_LIMIT, Task};
+use reader::RECORD_LIMIT;
 use report::Lister;
 use std::env::FillError;
 use std::rt::Env;
-use streams::{Drive, Streams};
+use streams::Streams;
 use tables::{LentTables, MAX_STATES, MAX_VISITED};
 
 // The bytes of the input that are read at once, and those of the output that are written at once.
 const INPUT: usize = 65536;
 
 const OUTPUT: usize = 131072;
-
-// What the program does with the bytes that it reads.
-#[derive(Clone, Copy)]
-struct Listing {
-    lister: Lister,
-}
-
-impl Drive for Listing {
-    ghost task = { λ s. s.lister.task };
-
-    ghost end = { λ s. s.lister.end };
-
-    ghost stands = { λ got put s piece output t. ListingProgress got put s.lister piece output t };
-
-    fn task(&self) -> Task {
-        self.lister.task
-    }
-
-    fn end(&self) -> usize {
-        self.lister.end
-    }
-
-    fn go_on(&mut self, piece: &[u8], output: &mut [u8], tables: &mut LentTables) {
-        self.lister.list(piece, output, tables);
-    }
-}
 
 // Where a listing ended, and whether its last text was written. `EndsListing` speaks of both.
 #[derive(Clone, Copy)]
@@ -56,7 +29,7 @@ struct ListingEnd {
 }
 
 fn main(rt: HostRuntime) {
-    // Counted by their bytes, since a word need not be text. Each program counts by itself: no contract could say what a call for it counts.
+    // Counted by their bytes, since a word need not be text. Each program counts by itself: `told_usage` is handed the number, of which its promise speaks, and a public function that counts would need a contract, which could not say what it counts.
     let words = (0..usize::MAX)
         .take_while(|&i| !matches!(rt.arg(i, &mut [0u8; 1]), Err(FillError::NotPresent)))
         .count();
@@ -77,7 +50,8 @@ fn main(rt: HostRuntime) {
     list_record(&streams);
 }
 
-// The arrays are this function's own: one that made them for all programs would be handed what to do with them, with clauses for it, and the output would be out of sight.
+// The arrays are this function's own: one function for both programs would take what to do with them as a closure, with clauses for it.
+#[tactic(auto, unfolding(tables::specs::Tables::visited_length))]
 fn list_record<R: Input + Print, E: Print>(streams: &Streams<R, E>) {
     list_input(
         streams,
@@ -101,6 +75,7 @@ fn list_record<R: Input + Print, E: Print>(streams: &Streams<R, E>) {
     );
 }
 
+// Lists the input to its end. Like `draw_input` of the drawing program in form alone: what is begun, what that asks for and what is promised of it (`EndsListing`) are its own, and what both do is `drive`.
 fn list_input<R: Input + Print, E: Print>(
     streams: &Streams<R, E>,
     input: &mut [u8],
@@ -112,12 +87,7 @@ fn list_input<R: Input + Print, E: Print>(
     ensures still_lent { StillLent tables.old tables.new }
     ensures ends { EndsListing result output.new (contents tables.new) }
 {
-    let mut listing = Listing {
-        lister: Lister::begin(output, tables),
-    };
-    let over = streams.drive(&mut listing, input, output, tables);
-    ListingEnd {
-        lister: listing.lister,
-        over,
-    }
+    let mut lister = Lister::begin(output, tables);
+    let over = streams.drive(&mut lister, input, output, tables);
+    ListingEnd { lister, over }
 }

@@ -12,6 +12,9 @@ use lib.ListN.{length, get_or, length-append}
 use Rattle.gid.specs.Statuses.{status_open, status_unknown, status_live, status_dead}
 use Rattle.record.specs.Text.{decimal}
 use Rattle.record.proofs.Decimals.{five_digits}
+use Rattle.tables.specs.Marks.{has_terminal}
+use Rattle.picture.specs.declared.shown.Shown.{Shown}
+use Rattle.picture.specs.Shown.{state_lines}
 use Rattle.picture.specs.Picture.{indent, labelled, arrow, open_look, unknown_look, live_look, dead_look, double_end, single_end, bold_end, plain_end, line, node, state_text, states_text, step_text, steps_text}
 
 -- what stands in a list does not depend on what is read past its end
@@ -65,7 +68,7 @@ module _ (f : ℕ → ℕ) (marked : ℕ → Bool) where
       by (yes k) before e = omega (arith, before k)
       by (no k) before e = let z : s ≡ n = omega arith in rw z (omega arith)
 
-  pub states_room : (n : ℕ) → n ≤ 100000 → length (states_text n f marked) ≤ 69 * n
+  states_room : (n : ℕ) → n ≤ 100000 → length (states_text n f marked) ≤ 69 * n
   unfolding states_text
   states_room zero h = omega arith
   states_room (suc n) h = omega (arith, states_room n (omega arith), state_room (f n) (marked n) n (omega arith), length-append (states_text n f marked) (state_text (f n) (marked n) n))
@@ -78,8 +81,8 @@ style_room : (b : Bool) → length (cond b bold_end plain_end) ≤ 16
 style_room true = omega arith
 style_room false = omega arith
 
-step_room : (from to key : ℕ) (bold : Bool) → from < 100000 → to < 100000 → key < 100000 → length (step_text from to key bold) ≤ 46
-step_room from to key bold p q k = omega (arith, step_length from to key bold, line_room from arrow to labelled p q, five_digits key k, style_room bold)
+pub step_short : (from to key : ℕ) (bold : Bool) → from < 100000 → to < 100000 → key < 100000 → length (step_text from to key bold) ≤ 46
+step_short from to key bold p q k = omega (arith, step_length from to key bold, line_room from arrow to labelled p q, five_digits key k, style_room bold)
 
 -- the lines of one step more
 module _ (from to key successor : ℕ → ℕ) where
@@ -90,16 +93,6 @@ module _ (from to key successor : ℕ → ℕ) where
   unfolding steps_text
   steps_next p = rw (add-one p) refl
 
-  pub steps_fit : (m p : ℕ) → p < m → length (steps_text p from to key successor) + length (step p) ≤ length (steps_text m from to key successor)
-  unfolding steps_text
-  steps_fit zero p h = absurd (omega arith)
-  steps_fit (suc m) p h = by (dec_lt p m) (steps_fit m p) (length-append (steps_text m from to key successor) (step m))
-    where
-      by : Dec (p < m) → (p < m → length (steps_text p from to key successor) + length (step p) ≤ length (steps_text m from to key successor)) → length (steps_text m from to key successor ++ step m) ≡ length (steps_text m from to key successor) + length (step m) → length (steps_text p from to key successor) + length (step p) ≤ length (steps_text m from to key successor ++ step m)
-      by (yes k) before e = omega (arith, before k)
-      by (no k) before e = let z : p ≡ m = omega arith in rw z (omega arith)
-
-  pub steps_room : ((p : ℕ) → from p < 100000) → ((p : ℕ) → to p < 100000) → ((p : ℕ) → key p < 100000) → (m : ℕ) → length (steps_text m from to key successor) ≤ 46 * m
-  unfolding steps_text
-  steps_room a b c zero = omega arith
-  steps_room a b c (suc m) = omega (arith, steps_room a b c m, step_room (from m) (to m) (key m) (eqb (successor (from m)) m) (a m) (b m) (c m), length-append (steps_text m from to key successor) (step m))
+-- the lines of the states that a picture shows
+pub shown_room : (s : Shown) → length (state_lines s) ≤ 69 * s.n
+shown_room s = states_room (λ i. get_or s.status.now i 0) (λ i. has_terminal (get_or s.marks.now i 0)) s.n (omega (arith, s.few_states))

@@ -4,9 +4,11 @@ ghost use Rattle.tables.specs.Lending.{contents, StillLent};
 ghost use Rattle.record.specs.Putting.{Puts};
 ghost use Rattle.picture.specs.Picture.{picture_room};
 ghost use Rattle.picture.specs.Drawer.{drawn_steps, picture_by, BeginsDrawing, Draws};
+ghost use Rattle.picture.specs.Driving.{DrawingStands};
 
+use crate::shown::Shown;
 use crate::text::{PICTURE_ROOM, put_picture};
-use reader::{RECORD_LIMIT, Reader, Task, Until};
+use reader::{Drive, RECORD_LIMIT, Reader, Task, Until};
 use record::TextBuffer;
 use tables::{LentTables, MAX_STATES, MAX_STEPS};
 
@@ -72,15 +74,38 @@ impl Drawer {
         let graph = self.reader.engine.graph;
         put_picture(
             text,
-            graph.n.min(MAX_STATES),
-            drawn_steps(graph.steps, tables),
-            tables.status,
-            tables.marks,
-            tables.from,
-            tables.to,
-            tables.key,
-            tables.successor,
+            Shown {
+                n: graph.n.min(MAX_STATES),
+                steps: drawn_steps(graph.steps, tables),
+                status: tables.status,
+                marks: tables.marks,
+                from: tables.from,
+                to: tables.to,
+                key: tables.key,
+                successor: tables.successor,
+            },
         );
+    }
+}
+
+// What a program drives. What comes of a drawing is its progress, where the output has room for a picture. Like the lister's in form alone: each hands on to the calls of its own type, under a law of its own.
+impl Drive for Drawer {
+    ghost task = { λ s. s.task };
+
+    ghost end = { λ s. s.end };
+
+    ghost stands = { λ got put s piece output t. DrawingStands got s piece output t };
+
+    fn task(&self) -> Task {
+        self.task
+    }
+
+    fn end(&self) -> usize {
+        self.end
+    }
+
+    fn go_on(&mut self, piece: &[u8], output: &mut [u8], tables: &mut LentTables) {
+        self.draw(piece, output, tables);
     }
 }
 

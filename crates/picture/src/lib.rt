@@ -2,6 +2,7 @@
 #![tactic(auto)]
 
 mod drawer;
+mod shown;
 mod text;
 
 pub use drawer::Drawer;

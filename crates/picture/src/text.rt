@@ -1,51 +1,42 @@
 // The picture of some tables: a Graphviz graph with a line for each state that has a verdict and for each listed step, put behind what stands in the buffer.
-ghost use Rattle.std.specs.Prelude.{◌≡◌, ℕ, ◌≤◌, ◌+◌, length, get_or};
-ghost use Rattle.gid.specs.Refusals.{max_steps};
+ghost use Rattle.std.specs.Prelude.{◌≡◌, ◌≤◌, ◌+◌, ◌*◌, length, get_or};
 ghost use Rattle.gid.specs.Successors.{no_successor};
 ghost use Rattle.tables.specs.Marks.{has_terminal};
 ghost use Rattle.record.specs.Putting.{Puts};
-ghost use Rattle.reader.specs.Opening.{reader_states};
-ghost use Rattle.picture.specs.Picture.{line, node, state_text, states_text, step_text, steps_text, picture, picture_room};
+ghost use Rattle.picture.specs.Picture.{line, node, state_text, step_text, picture_room};
+ghost use Rattle.picture.specs.Shown.{state_lines, step_lines, shown_picture, step_room};
 
+use crate::shown::Shown;
 use record::TextBuffer;
 use tables::{DEAD, LIVE, Mark, NO_SUCCESSOR, OPEN, UNKNOWN, status_of};
 
 // The room that is to be left in the buffer for a picture.
 pub const PICTURE_ROOM: usize = 557056;
 
-// The whole picture, of tables with any contents. They are slices of their own, so that what stands in them is known to be 16 or 8 bits, which bounds the text.
-pub fn put_picture(
-    text: &mut TextBuffer,
-    n: usize,
-    m: usize,
-    status: &[u8],
-    marks: &[u8],
-    from: &[u16],
-    to: &[u16],
-    key: &[u8],
-    successor: &[u16],
-)
-    requires states { n ≤ reader_states }
-    requires steps { m ≤ max_steps }
-    requires a_source_each { m ≤ length from.now }
-    requires a_target_each { m ≤ length to.now }
-    requires a_key_each { m ≤ length key.now }
-    requires room { text.old.end + picture_room ≤ length text.old.buf.now }
-    ensures { Puts (picture n m status.now marks.now from.now to.now key.now successor.now) text.old text.new }
+// The whole picture, of tables with any contents.
+#[tactic(auto, using(crate::proofs::Drawing::shown_room))]
+pub fn put_picture(text: &mut TextBuffer, shown: Shown)
+    requires { text.old.end + picture_room ≤ length text.old.buf.now }
+    ensures { Puts (shown_picture shown.entry) text.old text.new }
 {
     text.put_bytes(b"digraph verdicts {\n  rankdir=LR;\n  node [style=filled];\n");
-    put_states(text, n, status, marks);
-    put_steps(text, m, from, to, key, successor);
+    put_states(text, shown);
+    put_steps(text, shown);
     text.put_bytes(b"}\n");
 }
 
-// The lines of the first n states, by rising state.
-fn put_states(text: &mut TextBuffer, n: usize, status: &[u8], marks: &[u8])
-    requires { text.old.end + length (states_text n (λ s. get_or status.now s 0) (λ s. has_terminal (get_or marks.now s 0))) ≤ length text.old.buf.now }
-    ensures { Puts (states_text n (λ s. get_or status.now s 0) (λ s. has_terminal (get_or marks.now s 0))) text.old text.new }
+// The lines of the states, by rising state.
+fn put_states(text: &mut TextBuffer, shown: Shown)
+    requires { text.old.end + length (state_lines shown) ≤ length text.old.buf.now }
+    ensures { Puts (state_lines shown.entry) text.old text.new }
 {
-    for s in 0..n {
-        put_state(text, s, status_of(status, s), is_terminal(marks, s));
+    for s in 0..shown.n {
+        put_state(
+            text,
+            s,
+            status_of(shown.status, s),
+            is_terminal(shown.marks, s),
+        );
     }
 }
 
@@ -78,26 +69,17 @@ fn put_node(text: &mut TextBuffer, state: usize, look: &[u8], terminal: bool)
     text.put_bytes(end);
 }
 
-// The lines of the first m steps, in list order.
-fn put_steps(
-    text: &mut TextBuffer,
-    m: usize,
-    from: &[u16],
-    to: &[u16],
-    key: &[u8],
-    successor: &[u16],
-)
-    requires a_source_each { m ≤ length from.now }
-    requires a_target_each { m ≤ length to.now }
-    requires a_key_each { m ≤ length key.now }
-    requires room { text.old.end + length (steps_text m (λ p. get_or from.now p 0) (λ p. get_or to.now p 0) (λ p. get_or key.now p 0) (λ s. get_or successor.now s no_successor)) ≤ length text.old.buf.now }
-    ensures { Puts (steps_text m (λ p. get_or from.now p 0) (λ p. get_or to.now p 0) (λ p. get_or key.now p 0) (λ s. get_or successor.now s no_successor)) text.old text.new }
+// The lines of the steps, in list order. Each is short, since what it is read of is 16 or 8 bits.
+fn put_steps(text: &mut TextBuffer, shown: Shown)
+    requires { text.old.end + step_room * shown.steps ≤ length text.old.buf.now }
+    ensures puts { Puts (step_lines shown.entry) text.old text.new }
+    ensures within { text.new.end ≤ text.old.end + step_room * shown.entry.steps }
 {
-    for p in 0..m {
-        let source = usize::from(from[p]);
-        let target = usize::from(to[p]);
-        let bold = usize::from(successor_of(successor, source)) == p;
-        put_step(text, source, target, usize::from(key[p]), bold);
+    for p in 0..shown.steps {
+        let source = usize::from(shown.from[p]);
+        let target = usize::from(shown.to[p]);
+        let bold = usize::from(successor_of(shown.successor, source)) == p;
+        put_step(text, source, target, usize::from(shown.key[p]), bold);
     }
 }
 
@@ -117,6 +99,7 @@ fn put_step(text: &mut TextBuffer, from: usize, to: usize, key: usize, bold: boo
 }
 
 // Two numbers on a line, with what stands between and behind them.
+#[tactic(auto, using(crate::proofs::Drawing::line_length))]
 fn put_line(text: &mut TextBuffer, a: usize, middle: &[u8], b: usize, ending: &[u8])
     requires { text.old.end + length (line a middle.now b ending.now) ≤ length text.old.buf.now }
     ensures { Puts (line a middle.now b ending.now) text.old text.new }
@@ -128,7 +111,7 @@ fn put_line(text: &mut TextBuffer, a: usize, middle: &[u8], b: usize, ending: &[
     text.put_bytes(ending);
 }
 
-// A state's successor entry, 65,535 past the table's end.
+// A state's successor entry; past the table's end 65,535, document 01's number for none. Not one function with `status_of`: the width and the entry for none differ. `steps_text` compares the entry with a step's index as it is.
 fn successor_of(successor: &[u16], s: usize) -> u16
     ensures { result ≡ get_or successor.now s no_successor }
 {

@@ -36,13 +36,14 @@ pub struct Turn {
 
 impl Reader {
     // Reads the lines of a part from an index on, up to one that is waited for or to the end of the part. What came of the line that was waited for is the answer.
+    #[tactic(auto, using(record::proofs::Splitting::part_next, crate::proofs::Going::going_none, crate::proofs::Going::going_found))]
     pub fn advance(&mut self, part: &[u8], at: usize, until: Until, tables: &mut LentTables) -> Turn
         ensures still_lent { StillLent tables.old tables.new }
         ensures within { at ≤ length part.now → result.next ≤ length part.now }
         ensures onward { at < length part.now → at < result.next }
         ensures advances { Advances until self.old.splitter (drop at part.now) self.old.engine.graph (contents tables.old) self.new.splitter (drop result.next part.now) self.new.engine.graph (contents tables.new) result.answer }
     {
-        // Each turn begins where the last one ended, a line's length further.
+        // Each turn's answer says where the next one begins, so that no range and no iterator has its steps.
         let mut next = at;
         while next < part.len() {
             let turn = self.turn(part, next, tables);
@@ -70,6 +71,7 @@ impl Reader {
     }
 
     // Applies a line: an update is made on the tables, and a count gives the number of states.
+    #[tactic(auto, using(crate::specs::Turning::nothing, crate::specs::Turning::malformed, crate::specs::Turning::bad_names, crate::specs::Turning::too_many, crate::specs::Turning::states, crate::specs::Turning::bad_count))]
     fn apply(&mut self, item: Item, tables: &mut LentTables) -> Option<LineAnswer>
         ensures still_lent { StillLent tables.old tables.new }
         ensures splitter { self.new.splitter ≡ self.old.splitter }

@@ -6,11 +6,13 @@ ghost use Rattle.tables.specs.Lending.{contents, StillLent};
 ghost use Rattle.record.specs.Splitting.{started};
 ghost use Rattle.reader.specs.Reading.{Reads, refused_line};
 
+mod drive;
 mod driver;
 mod pieces;
 mod start;
 mod task;
 
+pub use drive::Drive;
 pub use driver::{LineAnswer, Turn, Until};
 use engine::Engine;
 use record::Splitter;

@@ -23,6 +23,7 @@ impl Reader {
     }
 
     // What is read of a piece of the record: the piece, or at the end of the input, where it is empty, the newlines that the record lacks.
+    #[tactic(auto, using(record::proofs::Splitting::last_short, record::proofs::Splitting::last_part))]
     pub fn part_of<'a>(&self, piece: &'a [u8]) -> &'a [u8]
         ensures { result.now ≡ piece_or piece.now (last_newlines self.now.splitter) }
     {

@@ -29,6 +29,7 @@ fn freshen(limit: usize, tables: &mut LentTables)
     ensures still_lent { StillLent tables.old tables.new }
     ensures fresh { contents tables.new ≡ freshened limit (contents tables.old) }
 {
+    // Each table as a local, since each is filled by itself.
     let status = &mut *tables.status;
     let marks = &mut *tables.marks;
     let successor = &mut *tables.successor;

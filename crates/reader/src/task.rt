@@ -13,12 +13,12 @@ pub enum Task {
     End,
 }
 
-// The piece, or at the end of the input, where it is empty, the newline that the last line lacks.
-pub fn piece_or<'a>(piece: &'a [u8], newline: &'a [u8]) -> &'a [u8]
-    ensures { result.now ≡ piece_or piece.now newline.now }
+// The piece, or at the end of the input, where it is empty, the newlines that the record lacks.
+pub fn piece_or<'a>(piece: &'a [u8], newlines: &'a [u8]) -> &'a [u8]
+    ensures { result.now ≡ piece_or piece.now newlines.now }
 {
     if piece.is_empty() {
-        return newline;
+        return newlines;
     }
     piece
 }

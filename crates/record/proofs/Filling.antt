@@ -10,7 +10,7 @@ use Rattle.record.specs.declared.line.Line.{Line}
 use Rattle.record.specs.declared.line.Filled.{Filled}
 use Rattle.record.specs.Lines.{before}
 use Rattle.record.specs.Buffer.{with_byte, with_bytes, filled_from}
-use Rattle.record.proofs.Indexed.{here}
+use Rattle.std.proofs.lemmas.List.{drop_more}
 
 pub with_long : (b : Line) (c : ℕ) → 16 ≤ b.len → with_byte b c ≡ record { bytes = b.bytes; len = 17 }
 unfolding with_byte
@@ -32,11 +32,11 @@ module _ (b : Line) (s : List ℕ) (i : ℕ) where
   module _ (h : i < length s) where
     pub filled_break : get_or s i 0 ≡ 10 → filled_from b s i ≡ record { line = b; next = i }
     unfolding before
-    filled_break e = stays b i (drop i s) (rw (here s i h, eq-eqb (get_or s i 0) 10 e))
+    filled_break e = stays b i (drop i s) (rw (drop_more s i 0 h, eq-eqb (get_or s i 0) 10 e))
 
     pub filled_more : (get_or s i 0 ≡ 10 → ⊥) → filled_from b s i ≡ filled_from (with_byte b (get_or s i 0)) s (i + 1)
     unfolding before with_bytes
     filled_more e =
         let l = before (drop (i + 1) s) in
         let z : i + suc (length l) ≡ i + 1 + length l = omega arith in
-        rw (here s i h, ne_eqb (get_or s i 0) 10 e, z)
+        rw (drop_more s i 0 h, ne_eqb (get_or s i 0) 10 e, z)

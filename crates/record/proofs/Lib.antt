@@ -1,5 +1,4 @@
 -- The laws of the record's definitions.
-pub mod Indexed
 pub mod Sameness
 pub mod Filling
 pub mod Decimals

@@ -2,7 +2,7 @@
 -- Assumes nothing.
 use mathlib.Core.Path.{◌≡◌, refl, sym, ◌∙◌, ap, subst}
 use mathlib.Core.Logic.{◌↔◌}
-use mathlib.Core.Bool.{Bool, true, false, cond, ◌&&◌}
+use mathlib.Core.Bool.{Bool, true, false, cond, ◌&&◌, false≢true}
 use mathlib.Core.List.{List, [], ◌∷◌, ◌++◌, append_assoc, append-nil}
 use mathlib.Core.Option.{Option, some, none}
 use Prim.Native.Nat.{ℕ, zero, suc, ◌+◌, ◌*◌, ◌-◌, ◌/◌, ◌%◌, ◌≤◌, ◌<◌}
@@ -20,10 +20,19 @@ use Rattle.record.specs.declared.line.Form.TheVariants.{Plain, Keyed}
 use Rattle.record.specs.Text.{decimal, keyed, head, field, text, max_value, KeyWithin, Within}
 use Rattle.record.specs.Grammar.{Front, is_digit, digits, value, behind, whole, key_of, step, no_key, mark_with, update, fields, line_of, count_of, ◌and_then◌}
 use Rattle.record.proofs.Decimals.{decimal_digit, decimal_more, decimal_then, two_digits, five_digits}
-use Rattle.record.proofs.Indexed.{is-digit, digit_bounds}
 
 none_some : {A : Type 0} (a : A) → none ≡ some a → ⊥
 none_some a e = let z : ◌≡◌ {A = ℕ} 0 1 = cc in omega arith
+
+is-digit : (b : ℕ) → 48 ≤ b → b ≤ 57 → is_digit b ≡ true
+is-digit b p q = rw (le-leb 48 b p, le-leb b 57 q)
+
+digit_bounds : (b : ℕ) → is_digit b ≡ true → (48 ≤ b) × (b ≤ 57)
+digit_bounds b = by (leb 48 b) refl
+  where
+    by : (t : Bool) → leb 48 b ≡ t → (t && leb b 57) ≡ true → (48 ≤ b) × (b ≤ 57)
+    by true p e = (leb-true 48 b p, leb-true b 57 e)
+    by false p e = absurd (false≢true e)
 
 -- No digit is at the front.
 abbrev pub NoDigit : List ℕ → Type 0

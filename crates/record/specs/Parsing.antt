@@ -1,8 +1,8 @@
 -- What the answers of the grammar's functions stand for.
 -- Assumes nothing.
-use Rattle.std.specs.Prelude.{cond, List, ℕ, ◌-◌, drop, Option as Answer, Some, None}
+use Rattle.std.specs.Prelude.{cond, List, ℕ, ◌-◌, Option as Answer, Some, None}
+use Rattle.std.specs.Borrow.{Bor}
 use Rattle.std.proofs.Math.Option.{Option, some, none}
-use Rattle.record.specs.declared.grammar.Value.{Value}
 use Rattle.record.specs.Grammar.{Front, is_digit}
 
 -- What a line is, as an update or as a count.
@@ -13,11 +13,12 @@ parsed (some x) = Some x
 abbrev pub digit_of : ℕ → Answer ℕ
 digit_of b = cond (is_digit b) (Some (b - 48)) None
 
--- A value found in the bytes l, and what is behind it.
-abbrev pub front : List ℕ → Answer Value → Option Front
-front l (Some v) = some (record { number = v.number; rest = drop v.next l })
-front l None = none
+-- A value found at the front of some bytes, and what is behind it.
+abbrev pub front : Answer (ℕ × Bor (List ℕ)) → Option Front
+front (Some p) = some (record { number = p.0; rest = p.1.now })
+front None = none
 
-abbrev pub rest : List ℕ → Answer ℕ → Option (List ℕ)
-rest l (Some i) = some (drop i l)
-rest l None = none
+-- What is behind what was read.
+abbrev pub rest : Answer (Bor (List ℕ)) → Option (List ℕ)
+rest (Some s) = some s.now
+rest None = none

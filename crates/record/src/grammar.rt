@@ -1,6 +1,9 @@
 // The grammar of a line: "`E 3 4` a step, `T 3 -` a terminal mark, `C 3 -` a close", and with keys `E 3 4 7`, `T 3 - -`, `C 3 - -`. Every other byte is malformed. A count is a value by itself.
-ghost use Rattle.std.specs.Prelude.{◌≡◌, ℕ, ◌≤◌, length, drop};
-ghost use Rattle.record.specs.Grammar.{digits, value, behind, key_of, step, no_key, mark_with, line_of, count_of};
+// Each function takes the bytes that are left and gives what it reads at their front with the bytes behind it, as the definition of the same name says.
+#![tactic(auto, unfolding(crate::specs::Grammar::line_of, crate::specs::Grammar::count_of, crate::specs::Grammar::fields, crate::specs::Grammar::update, crate::specs::Grammar::step, crate::specs::Grammar::key_of, crate::specs::Grammar::mark_with, crate::specs::Grammar::no_key, crate::specs::Grammar::behind, crate::specs::Grammar::value, crate::specs::Grammar::digits))]
+
+ghost use Rattle.std.specs.Prelude.{◌≡◌, ◌≤◌};
+ghost use Rattle.record.specs.Grammar.{digits, value, behind, whole, key_of, step, no_key, mark_with, update, fields, count_of};
 ghost use Rattle.record.specs.Buffer.{line_in, line_count};
 ghost use Rattle.record.specs.Parsing.{parsed, digit_of, front, rest};
 
@@ -11,20 +14,13 @@ use tables::MAX_STATES;
 // "A value is decimal, 0 to 65,535"
 const MAX_VALUE: usize = 65535;
 
-// A value with the index after it.
-#[derive(Clone, Copy)]
-struct Value {
-    pub number: usize,
-    pub next: usize,
-}
-
 impl Line {
     // The update that the line is, in a record of a form.
     pub fn parse(self, form: Form) -> Option<Update>
         ensures { result ≡ parsed (line_in form self) }
     {
         let bytes = self.bytes;
-        parse_bytes(content(&bytes, self.len)?, form)
+        fields(form, content(&bytes, self.len)?)
     }
 
     // The count that the line is.
@@ -40,124 +36,116 @@ impl Line {
 pub fn count_bytes(s: &[u8]) -> Option<usize>
     ensures { result ≡ parsed (count_of s.now) }
 {
-    let Value { number, next } = value_at(s, 0)?;
-    if next < s.len() || number < 1 || MAX_STATES < number {
-        return None;
+    match value(s)? {
+        (number @ 1..=MAX_STATES, []) => Some(number),
+        _ => None,
     }
-    Some(number)
 }
 
-fn parse_bytes(s: &[u8], form: Form) -> Option<Update>
-    requires { length s.now ≤ 16 }
-    ensures { result ≡ parsed (line_of form s.now) }
+// The kind, a space, a value, a space, and the rest: "one space between".
+fn fields(form: Form, s: &[u8]) -> Option<Update>
+    ensures { result ≡ parsed (fields form s.now) }
 {
-    let kind = *s.first()?;
-    let from = value_at(s, after(b' ', s, 1)?)?;
-    let to = after(b' ', s, from.next)?;
+    let (kind, s) = s.split_first()?;
+    let (from, s) = value(behind(b' ', s)?)?;
+    update(form, *kind, from, behind(b' ', s)?)
+}
+
+// By the kind, E, T or C: the update from a value, with the bytes from `to` on.
+fn update(form: Form, kind: u8, from: usize, s: &[u8]) -> Option<Update>
+    ensures { result ≡ parsed (update form kind from s.now) }
+{
     match kind {
-        b'E' => parse_step(s, to, from.number, form),
-        b'T' => parse_mark(s, to, Update::Terminal { state: from.number }, form),
-        b'C' => parse_mark(s, to, Update::Close { state: from.number }, form),
+        b'E' => step(form, from, s),
+        b'T' => mark_with(form, Update::Terminal { state: from }, s),
+        b'C' => mark_with(form, Update::Close { state: from }, s),
         _ => None,
     }
 }
 
 // A step's `to` and key, up to the line's end.
-fn parse_step(s: &[u8], at: usize, from: usize, form: Form) -> Option<Update>
-    ensures { result ≡ parsed (step form from (drop at s.now)) }
+fn step(form: Form, from: usize, s: &[u8]) -> Option<Update>
+    ensures { result ≡ parsed (step form from s.now) }
 {
-    let to = value_at(s, at)?;
-    let key = key_at(s, to.next, form)?;
-    let edge = Edge {
-        from,
-        to: to.number,
-        key: key.number,
-    };
-    if key.next < s.len() {
-        return None;
-    }
-    Some(Update::Step { edge })
+    let (to, s) = value(s)?;
+    let (key, s) = key_of(form, s)?;
+    let edge = Edge { from, to, key };
+    whole(Update::Step { edge }, s)
 }
 
-// A step's key: "A record with the old names line gives every step key 0".
-fn key_at(s: &[u8], at: usize, form: Form) -> Option<Value>
-    ensures { front s.now result ≡ key_of form (drop at s.now) }
+// A step's key: "A record with the old names line gives every step key 0". By the form, as `key_of` has it: a form is what the splitter keeps of the names line.
+fn key_of(form: Form, s: &[u8]) -> Option<(usize, &[u8])>
+    ensures { front result ≡ key_of form s.now }
 {
     match form {
-        Form::Plain => Some(Value {
-            number: 0,
-            next: at,
-        }),
-        Form::Keyed => value_at(s, after(b' ', s, at)?),
+        Form::Plain => Some((0, s)),
+        Form::Keyed => value(behind(b' ', s)?),
     }
 }
 
 // The `to` and the key of a terminal mark or a close, up to the line's end.
-fn parse_mark(s: &[u8], at: usize, update: Update, form: Form) -> Option<Update>
-    ensures { result ≡ parsed (mark_with form update (drop at s.now)) }
+fn mark_with(form: Form, mark: Update, s: &[u8]) -> Option<Update>
+    ensures { result ≡ parsed (mark_with form mark s.now) }
 {
-    let key = after(b'-', s, at)?;
-    let end = after_no_key(s, key, form)?;
-    if end < s.len() {
-        return None;
-    }
-    Some(update)
+    whole(mark, no_key(form, behind(b'-', s)?)?)
 }
 
-// The index after the key of a terminal mark or a close, which has none: "T and C lines have `-` there."
-fn after_no_key(s: &[u8], at: usize, form: Form) -> Option<usize>
-    ensures { rest s.now result ≡ no_key form (drop at s.now) }
+// What is behind the key of a terminal mark or a close, which has none: "T and C lines have `-` there." One function with `key_of` would take what it reads as a closure, and give a number where none is read.
+fn no_key(form: Form, s: &[u8]) -> Option<&[u8]>
+    ensures { rest result ≡ no_key form s.now }
 {
     match form {
-        Form::Plain => Some(at),
-        Form::Keyed => after(b'-', s, after(b' ', s, at)?),
+        Form::Plain => Some(s),
+        Form::Keyed => behind(b'-', behind(b' ', s)?),
     }
 }
 
-// The index after a byte, where it stands there.
-fn after(byte: u8, s: &[u8], at: usize) -> Option<usize>
-    ensures { rest s.now result ≡ behind byte (drop at s.now) }
+// The update, where the line ends here.
+fn whole(update: Update, s: &[u8]) -> Option<Update>
+    ensures { result ≡ parsed (whole update s.now) }
 {
-    if at < s.len() && s[at] == byte {
-        Some(at + 1)
-    } else {
-        None
+    match s {
+        [] => Some(update),
+        _ => None,
+    }
+}
+
+// What is behind a byte, where the bytes start with it.
+fn behind(byte: u8, s: &[u8]) -> Option<&[u8]>
+    ensures { rest result ≡ behind byte s.now }
+{
+    match s {
+        [first, rest @ ..] if *first == byte => Some(rest),
+        _ => None,
     }
 }
 
 // "A value is decimal, 0 to 65,535, without leading zeros."
-fn value_at(s: &[u8], at: usize) -> Option<Value>
-    ensures { front s.now result ≡ value (drop at s.now) }
+fn value(s: &[u8]) -> Option<(usize, &[u8])>
+    ensures { front result ≡ value s.now }
 {
-    match *s.get(at)? {
-        b'0' => Some(Value {
-            number: 0,
-            next: at + 1,
-        }),
-        first => digits_at(s, at + 1, digit_of(first)?),
+    match s {
+        [b'0', rest @ ..] => Some((0, rest)),
+        [first, rest @ ..] => digits(digit_of(*first)?, rest),
+        [] => None,
     }
 }
 
 // The rest of a value whose first digits make a number.
-fn digits_at(s: &[u8], at: usize, first: usize) -> Option<Value>
-    requires at_within { at ≤ length s.now }
-    requires first_within { first ≤ 65535 }
-    ensures { front s.now result ≡ digits first (drop at s.now) }
+fn digits(mut number: usize, mut s: &[u8]) -> Option<(usize, &[u8])>
+    requires { number ≤ 65535 }
+    ensures { front result ≡ digits number s.now }
 {
-    let mut number = first;
-    for i in at..s.len() {
-        let Some(digit) = digit_of(s[i]) else {
-            return Some(Value { number, next: i });
-        };
+    while let [byte, rest @ ..] = s
+        && let Some(digit) = digit_of(*byte)
+    {
         number = number * 10 + digit;
         if MAX_VALUE < number {
             return None;
         }
+        s = rest;
     }
-    Some(Value {
-        number,
-        next: s.len(),
-    })
+    Some((number, s))
 }
 
 fn digit_of(b: u8) -> Option<usize>

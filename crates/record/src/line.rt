@@ -1,7 +1,8 @@
 // The line buffer: "The reader collects each line in its own 16 bytes before judging it."
-ghost use Rattle.std.specs.Prelude.{◌≡◌, ◌≤◌, ◌<◌, take, MatchOption};
+ghost use Rattle.std.specs.Prelude.{◌≡◌, false, ◌≤◌, ◌<◌, take, MatchOption};
 ghost use Rattle.record.specs.Text.{names};
-ghost use Rattle.record.specs.Buffer.{empty_line, filled_from, is_names_in, is_states_in};
+ghost use Rattle.record.specs.Items.{same};
+ghost use Rattle.record.specs.Buffer.{empty_line, filled_from, of_bytes, is_names_in, is_states_in};
 
 // The two forms of a record, by its names line: `kind from to`, and `kind from to key`.
 #[derive(Clone, Copy)]
@@ -35,7 +36,7 @@ impl Line {
         }
     }
 
-    // The line with the bytes of s from an index on, up to a newline or the end of s, one by one: the first 16 are kept.
+    // The line with the bytes of s from an index on, up to a newline or the end of s, one by one: the first 16 are kept. By indices, here and where a part is fed and read, as `filled_from`, `after_part` and the promise of `advance` have it.
     pub fn filled(self, s: &[u8], at: usize) -> Filled
         ensures { result ≡ filled_from self s.now at }
     {
@@ -64,16 +65,22 @@ impl Line {
     pub fn is_names(self, form: Form) -> bool
         ensures { result ≡ is_names_in form self }
     {
-        let bytes = self.bytes;
-        content(&bytes, self.len) == Some(names(form))
+        self.is(names(form))
     }
 
     // Whether the line is `states`.
     pub fn is_states(self) -> bool
         ensures { result ≡ is_states_in self }
     {
+        self.is(b"states")
+    }
+
+    // Whether the line has the bytes of a text, and no more.
+    fn is(self, text: &[u8]) -> bool
+        ensures { result ≡ of_bytes (λ l. same l text.now) false self }
+    {
         let bytes = self.bytes;
-        content(&bytes, self.len) == Some(b"states".as_slice())
+        content(&bytes, self.len) == Some(text)
     }
 }
 
@@ -84,7 +91,7 @@ pub(crate) fn content(bytes: &[u8; 16], len: usize) -> Option<&[u8]>
     if 16 < len { None } else { Some(&bytes[..len]) }
 }
 
-// The names line of a form.
+// The names line of a form, as the definition of this name has it.
 fn names(form: Form) -> &'static [u8]
     ensures { result.now ≡ names form }
 {

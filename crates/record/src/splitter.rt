@@ -19,7 +19,7 @@ pub struct Numbered {
     pub update: Update,
 }
 
-// What the bytes fed make known.
+// What the bytes fed make known: an enum of its own, Nothing and refusals with the rest, since `count_in`, `item_number`, `item_line` and `told` say of each case what it comes to, and `further`, `from_names` and `count_items` which line is which.
 #[derive(Clone, Copy)]
 pub enum Item {
     // No line has ended, or reading has stopped.
@@ -37,7 +37,7 @@ pub enum Item {
     BadCount,
 }
 
-// Where a line stands: in the head of a record, or behind it.
+// Where a line stands: in the head of a record, or behind it. What comes of a line goes by the phase, as `after_line` has it.
 #[derive(Clone, Copy)]
 pub enum Phase {
     // Line 1: `states`, or the names line.
@@ -56,7 +56,7 @@ pub struct Splitter {
     pub line: Line,
     // Its number, from 1.
     pub number: usize,
-    // Whether reading has stopped.
+    // Whether reading has stopped: a flag beside the phase, which stays. `after_line` and `awaited` ask it first, and what a listing and a drawing promise speaks of it.
     pub stopped: bool,
     // Where in the record it stands.
     pub phase: Phase,
@@ -78,7 +78,7 @@ pub struct Advanced {
 }
 
 impl Fed {
-    // The next line begins.
+    // The next line begins. This and `stop` differ in whether reading has stopped, which a caller says by name and not by a flag.
     fn next(number: usize, phase: Phase, item: Item) -> Fed
         ensures { result ≡ fed (at empty_line number false phase) item }
     {
@@ -122,6 +122,7 @@ impl Splitter {
     }
 
     // Feeds the bytes of s from an index on, up to the end of a line or of s.
+    #[tactic(auto, unfolding(crate::specs::Splitting::after_part))]
     pub fn feed_line(self, s: &[u8], at: usize) -> Advanced
         ensures { result ≡ after_part self s.now at }
     {
@@ -143,6 +144,7 @@ impl Splitter {
     }
 
     // Whether the head of the record is not over: a line of it is still to end.
+    #[tactic(auto, unfolding(crate::specs::Splitting::awaited))]
     fn awaits(self) -> bool
         ensures { result ≡ awaited self }
     {
@@ -150,6 +152,7 @@ impl Splitter {
     }
 
     // Whether a line is left that the end of the record ends: "A missing last newline makes no difference. Empty input lacks its names line."
+    #[tactic(auto, unfolding(crate::specs::Splitting::pending))]
     fn pending(self) -> bool
         ensures { result ≡ pending self }
     {
@@ -158,6 +161,7 @@ impl Splitter {
     }
 
     // How many newlines the record lacks at its end: that of the last line, if one is left, and that of a line of the head which is missing behind it.
+    #[tactic(auto, unfolding(crate::specs::Splitting::last_newlines))]
     pub fn lacking(self) -> usize
         ensures { result ≡ length (last_newlines self) }
     {
@@ -171,6 +175,7 @@ impl Splitter {
     }
 
     // Whether a line of the head comes behind this one: behind `states`, and behind a count. It is not asked by ending the line, which is done in one place, for speed.
+    #[tactic(auto, using(crate::proofs::Splitting::stopped_leads, crate::proofs::Splitting::first_leads, crate::proofs::Splitting::count_leads, crate::proofs::Splitting::names_leads, crate::proofs::Splitting::further_leads))]
     fn leads_on(self) -> bool
         ensures { result ≡ awaited (after_line self).splitter }
     {
@@ -185,6 +190,7 @@ impl Splitter {
     }
 
     // The line has ended.
+    #[tactic(auto, unfolding(crate::specs::Splitting::after_line, crate::specs::Splitting::in_phase))]
     fn ended(self) -> Fed
         ensures { result ≡ after_line self }
     {
@@ -204,6 +210,7 @@ impl Splitter {
 }
 
 // "A record may now begin with a line `states`".
+#[tactic(auto, unfolding(crate::specs::Splitting::after_first))]
 fn first_line(line: Line) -> Fed
     ensures { result ≡ after_first line }
 {
@@ -225,6 +232,7 @@ fn count_line(line: Line) -> Fed
 }
 
 // Line 1, or line 3 behind a count.
+#[tactic(auto, unfolding(crate::specs::Splitting::after_names))]
 fn names_line(line: Line, number: usize) -> Fed
     requires { number ≤ 3 }
     ensures { result ≡ after_names number line }
@@ -246,6 +254,7 @@ fn names_fed(number: usize, form: Form) -> Fed
     Fed::next(number + 1, Phase::Further(form), Item::Nothing)
 }
 
+#[tactic(auto, unfolding(crate::specs::Splitting::after_further))]
 fn further_line(line: Line, number: usize, form: Form) -> Fed
     ensures { result ≡ after_further form line number }
 {

@@ -34,6 +34,7 @@ impl TextBuffer<'_> {
     }
 
     // The decimal text of a number.
+    #[tactic(auto, using(crate::proofs::Decimals::some_digit, crate::proofs::Decimals::decimal_digit, crate::proofs::Decimals::decimal_more, crate::proofs::Writing::room_more, crate::proofs::Putting::puts_then))]
     pub fn put_number(&mut self, value: usize)
         requires { self.old.end + length (decimal value) ≤ length self.old.buf.now }
         ensures { Puts (decimal value) self.old self.new }

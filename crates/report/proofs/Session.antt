@@ -8,7 +8,7 @@ use Prim.Native.Nat.{ℕ, ◌≤◌}
 use native.Mathlib.Omega.{arith}
 use lib.Dec.{leb}
 use lib.ListN.{length, take, drop, drop_of_length-le}
-use lib.Seq.{take_at, take_all, take-length}
+use lib.Seq.{take_at, take_all, take-length, drop-nil}
 use borrow.Author.Tests.{leb-false, le-leb}
 use Rattle.tables.specs.declared.Graph.{Graph}
 use Rattle.tables.specs.Tables.{Tables}
@@ -78,9 +78,6 @@ whole {g' = g'} {t' = t'} {l = l} u a input e =
     ap (λ (x : List ℕ). said_by m ++ x) (totals_say (few_states record_limit m h) (stands_more record_graph (omega arith) a u.lines h u.stands)) ∙
     ap (λ (x : List Item). printed (start_of record_graph x) [] x) (sym e))
 
-drop_none : (n : ℕ) → drop {A = ℕ} n [] ≡ []
-drop_none n = let h : 0 ≤ n = omega arith in drop_of_length-le [] h
-
 -- a place past the end of the output is its end
 take_least : (n : ℕ) (d : List ℕ) → take (least n (length d)) d ≡ take n d
 take_least n d = by (leb n (length d)) refl
@@ -110,7 +107,7 @@ module _
       (λ rest none.
       more w h ∙
       whole u f.applied (got ++ rest)
-      (ap (λ (x : List ℕ). items (got ++ x)) (none e) ∙ ap items (append-nil got) ∙ underway_last u (rw e (drop_none (start_by l.task l.next 0))) f o n))
+      (ap (λ (x : List ℕ). items (got ++ x)) (none e) ∙ ap items (append-nil got) ∙ underway_last u (rw e (drop-nil (start_by l.task l.next 0))) f o n))
 
 -- From the start of a piece, or from where the last call stopped in it.
 drop_least : (next : ℕ) (piece : List ℕ) → drop (least next (length piece)) piece ≡ drop next piece

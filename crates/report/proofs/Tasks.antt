@@ -8,15 +8,12 @@ use native.Mathlib.Omega.{arith}
 use native.Mathlib.Decide.{dec_lt}
 use lib.ListN.{length, drop, length-drop, drop_of_length-le}
 use Rattle.tables.specs.Tables.{Tables}
-use Rattle.tables.specs.Keeping.{KeptTables}
-use Rattle.tables.proofs.Keeping.{tables_same}
 use Rattle.record.specs.Text.{WroteAt}
 use Rattle.record.specs.Splitting.{last_newlines, tells}
-use Rattle.record.proofs.Placing.{placed_on, placed_length}
+use Rattle.record.proofs.Placing.{placed_on}
 use Rattle.record.proofs.Splitting.{last_short, both_lack}
 use Rattle.reader.specs.Pieces.{piece_or}
 use Rattle.reader.specs.Advancing.{Follows}
-use Rattle.reader.specs.Opening.{reader_states}
 use Rattle.reader.proofs.Following.{follows_all}
 use Rattle.reader.proofs.Ending.{Silent, first_silent}
 use Rattle.report.specs.declared.lister.Lister.{Lister}
@@ -24,7 +21,7 @@ use Rattle.reader.specs.declared.task.Task.{Task}
 use Rattle.reader.specs.declared.task.Task.TheVariants.{Read, Write, End}
 use Rattle.tables.proofs.Numbers.{lesser}
 use Rattle.report.specs.Printing.{line_room, passed_text, Lines}
-use Rattle.report.specs.Lister.{lister_room, place_by, start_by, resumed, AfterLines, waits, continues, short, totals, Lists, full, pauses, goes_on, stopped, ended}
+use Rattle.report.specs.Lister.{lister_room, place_by, start_by, resumed, AfterLines, waits, continues, short, totals, Lists, pauses, goes_on, stopped, ended}
 use Rattle.report.proofs.Lining.{lines_length}
 use Rattle.report.proofs.Saying.{silent_text, lacks_room}
 
@@ -130,21 +127,3 @@ pub lists_by :
     Lines l₁.reader.splitter part l₁.next l₁.reader.engine.graph t d.reader.splitter d.next d.reader.engine.graph t' l₁.end output e d.end →
     {l' : Lister} {output' : List ℕ} → AfterLines d (length part) piece t'.status e l' output' → Lists l piece output t l' output' t'
 lists_by l piece output t d e t' r room p k f = by_piece l piece output t d e t' (rw r at p) (rw r at room) (rw r at k) f
-
--- What a call keeps of the tables, and where the text ends.
-pub lists_kept : {l : Lister} {piece output : List ℕ} {t : Tables} {l' : Lister} {output' : List ℕ} {t' : Tables} → Lists l piece output t l' output' t' → KeptTables reader_states reader_states l.reader.engine.graph.limit t t'
-lists_kept {l} {t = t} (full h q z w) = rw w (tables_same reader_states reader_states l.reader.engine.graph.limit t)
-lists_kept (pauses f k s w h) = f.kept
-lists_kept (goes_on f o k g s w h) = f.kept
-lists_kept (stopped f k s w h) = f.kept
-lists_kept (ended e n f o k w h) = f.kept
-
-placed_within : {at r : ℕ} {text output output' : List ℕ} → WroteAt at text output output' r → r ≤ length output → length output' ≡ length output
-placed_within {at} {r} {text} {output} {output'} w h = placed_length at text output output' r w (omega (arith, w.after))
-
-pub lists_within : {l : Lister} {piece output : List ℕ} {t : Tables} {l' : Lister} {output' : List ℕ} {t' : Tables} → Lists l piece output t l' output' t' → (l'.end ≤ length output) × (length output' ≡ length output)
-lists_within {l} {output = output} (full h q z w) = (rw q (lesser (place_by l.task l.end) (length output)).right, ap length z)
-lists_within (pauses f k s w h) = (h, placed_within w h)
-lists_within (goes_on f o k g s w h) = (h, placed_within w h)
-lists_within (stopped f k s w h) = (h, placed_within w h)
-lists_within (ended e n f o k w h) = (h, placed_within w h)

@@ -15,7 +15,7 @@ use tables::LentTables;
 pub const LINE_ROOM: usize = 34816;
 
 impl Lister {
-    // Lists the lines of a part from where it stands on, up to its end or until the buffer has no room for a line. How far each turn moves on is the reader's answer.
+    // Lists the lines of a part from where it stands on, up to its end or until the buffer has no room for a line. How far each turn moves on is the reader's answer, so that no range and no iterator has its steps.
     pub(crate) fn list_lines(&mut self, part: &[u8], buf: &mut [u8], tables: &mut LentTables)
         requires index { self.old.next ≤ length part.now }
         requires at { self.old.end ≤ length buf.old }

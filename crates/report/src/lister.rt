@@ -2,10 +2,11 @@
 ghost use Rattle.std.specs.Prelude.{◌≡◌, ◌≤◌, length};
 ghost use Rattle.tables.specs.Lending.{contents, StillLent};
 ghost use Rattle.report.specs.Lister.{idle, resumed, AfterLines, BeginsListing, Lists};
+ghost use Rattle.report.specs.Progress.{ListingProgress};
 
 use crate::lines::LINE_ROOM;
 use crate::text::{TOTALS_ROOM, put_header, put_totals};
-use reader::{RECORD_LIMIT, Reader, Task};
+use reader::{Drive, RECORD_LIMIT, Reader, Task};
 use record::TextBuffer;
 use tables::{LentTables, MAX_STATES};
 
@@ -74,7 +75,7 @@ impl Lister {
         self.finish(part.len(), piece, output, tables);
     }
 
-    // Goes on behind what the caller was to do: a new piece is read from its start, and an output that was written out is filled from its front.
+    // Goes on behind what the caller was to do, by the task that it was given, as `place_by` and `start_by` have it: a new piece is read from its start, and an output that was written out is filled from its front.
     fn resume(&mut self, len: usize)
         ensures { self.new ≡ resumed self.old len }
     {
@@ -108,5 +109,26 @@ impl Lister {
             self.end = text.end;
             self.task = Task::End;
         }
+    }
+}
+
+// What a program drives. What comes of a listing is its progress. Like the drawer's in form alone: each hands on to the calls of its own type, under a law of its own.
+impl Drive for Lister {
+    ghost task = { λ s. s.task };
+
+    ghost end = { λ s. s.end };
+
+    ghost stands = { λ got put s piece output t. ListingProgress got put s piece output t };
+
+    fn task(&self) -> Task {
+        self.task
+    }
+
+    fn end(&self) -> usize {
+        self.end
+    }
+
+    fn go_on(&mut self, piece: &[u8], output: &mut [u8], tables: &mut LentTables) {
+        self.list(piece, output, tables);
     }
 }

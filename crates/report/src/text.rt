@@ -19,6 +19,7 @@ pub fn put_header(text: &mut TextBuffer)
 }
 
 // A refusal's line.
+#[tactic(auto, using(crate::proofs::Placing::row_room))]
 pub fn put_refusal(text: &mut TextBuffer, line: usize, number: u8)
     requires line { line < 100000 }
     requires room { text.old.end + 20 ≤ length text.old.buf.now }
@@ -29,6 +30,7 @@ pub fn put_refusal(text: &mut TextBuffer, line: usize, number: u8)
 }
 
 // A line for each state of the news, with its verdict by the status table.
+#[tactic(auto, using(crate::proofs::Placing::news_fits, crate::proofs::Placing::news_room, record::proofs::Putting::puts_none), unfolding(crate::specs::Texts::news_text))]
 pub fn put_news(text: &mut TextBuffer, line: usize, news: &[u16], status: &[u8])
     requires line { line < 100000 }
     requires room { text.old.end + 17 * length news.now ≤ length text.old.buf.now }
@@ -50,6 +52,7 @@ fn put_verdict(text: &mut TextBuffer, line: usize, status: u8, state: usize)
 }
 
 // The four lines of the totals, over the first n states.
+#[tactic(auto, using(crate::proofs::Placing::totals_length, crate::proofs::Placing::totals_put))]
 pub fn put_totals(text: &mut TextBuffer, n: usize, status: &[u8])
     requires { text.old.end + length (table_totals n status.now) ≤ length text.old.buf.now }
     ensures { Puts (table_totals n status.now) text.old text.new }
@@ -62,6 +65,7 @@ pub fn put_totals(text: &mut TextBuffer, n: usize, status: &[u8])
 }
 
 // A line number, a word and a number.
+#[tactic(auto, using(crate::proofs::Placing::row_length, record::proofs::Putting::puts_then), unfolding(crate::specs::Texts::row))]
 fn put_row(text: &mut TextBuffer, line: usize, word: &[u8], number: usize)
     requires { text.old.end + length (row line word.now number) ≤ length text.old.buf.now }
     ensures { Puts (row line word.now number) text.old text.new }
@@ -71,6 +75,7 @@ fn put_row(text: &mut TextBuffer, line: usize, word: &[u8], number: usize)
 }
 
 // A word, a number and a newline.
+#[tactic(auto, using(crate::proofs::Placing::ending_length, record::proofs::Putting::puts_then), unfolding(crate::specs::Texts::ending))]
 fn put_ending(text: &mut TextBuffer, word: &[u8], number: usize)
     requires { text.old.end + length (ending word.now number) ≤ length text.old.buf.now }
     ensures { Puts (ending word.now number) text.old text.new }

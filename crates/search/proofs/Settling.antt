@@ -212,3 +212,7 @@ module _ {low high verdict : ℕ} {st su ne vi : List ℕ} where
     names = p.names;
     visits = p.visits;
   }
+
+-- What a settlement leaves in the list, as its lender has it.
+pub settled_list : {low high verdict : ℕ} {st su ne vi st' su' ne' vi' : List ℕ} {k : ℕ} {list : List ℕ} → Settled low high verdict st su ne vi st' su' ne' vi' k → list ≡ ne' → Settled low high verdict st su ne vi st' su' list vi' k
+settled_list p e = rw e p

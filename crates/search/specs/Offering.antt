@@ -7,6 +7,10 @@ use Rattle.tables.specs.Keeping.{Kept, KeptVisited}
 use Rattle.search.specs.declared.spread.Span.{Span}
 use Rattle.search.specs.Spreading.{Reached, unless, Before, unvisited}
 
+-- The span of no node, of n.
+abbrev pub no_span : ℕ → Span
+no_span n = record { len = 0; low = n; high = 0 }
+
 -- The node u is visited, and alone in the queue.
 pub record Begun (u : ℕ) (visited queue visited' queue' : List ℕ) (r : Span) : Type 0 where
   pub marks : visited' ≡ mark visited u

@@ -1,5 +1,5 @@
 // The verdicts, written in one place.
-ghost use Rattle.std.specs.Prelude.{◌+◌, ◌≤◌, ◌<◌, length};
+ghost use Rattle.std.specs.Prelude.{◌≡◌, ◌+◌, ◌≤◌, ◌<◌, length};
 ghost use Rattle.tables.specs.Tables.{visited_length};
 ghost use Rattle.tables.specs.Visits.{HasMark};
 ghost use Rattle.search.specs.Settling.{Settled, SettledOne, Told};
@@ -8,7 +8,7 @@ use super::spread::Span;
 use tables::{NO_SUCCESSOR, clear_visited, is_visited, skip_unvisited};
 
 // Gives each visited node from the span's least to its greatest the verdict and no successor, tells its news, in rising order, and unmarks
-// it. Answers the number of news.
+// it. Answers the number of news. The verdict is the entry that is written, as `Settled` has it; and of the work tables it is lent the marks alone, since the queue stays as it is: as a method of `Worklist` it would have to promise that too.
 pub fn settle(
     span: Span,
     verdict: u8,
@@ -26,50 +26,62 @@ pub fn settle(
         status.old successor.old news.old visited.old
         status.new successor.new news.new visited.new result }
 {
+    let mut told = News {
+        list: news,
+        count: 0,
+    };
     let mut s = span.low;
-    let mut count = 0;
     // What is visited decides where to go on, and each turn changes it: an iterator over the marks would have to be made anew in each.
     while s <= span.high {
-        count = settle_node(s, verdict, count, status, successor, news, visited);
+        settle_node(s, verdict, status, successor, &mut told, visited);
         s = skip_unvisited(visited, s);
     }
-    count
+    told.count
 }
 
 fn settle_node(
     s: usize,
     verdict: u8,
-    count: usize,
     status: &mut [u8],
     successor: &mut [u16],
-    news: &mut [u16],
+    told: &mut News,
     visited: &mut [u16],
-) -> usize
+)
     requires status_in_bounds { s < length status.old }
     requires successor_in_bounds { s < length successor.old }
     requires has_mark { HasMark visited.old s }
     requires s_fits { s < 65536 }
-    requires news_has_room { count < length news.old }
-    ensures { SettledOne s verdict count
-        status.old successor.old news.old visited.old
-        status.new successor.new news.new visited.new result }
+    requires news_has_room { told.old.count < length told.old.list.now }
+    ensures same { told.new.list.ghost_name ≡ told.old.list.ghost_name }
+    ensures settled { SettledOne s verdict told.old.count
+        status.old successor.old told.old.list.now visited.old
+        status.new successor.new told.new.list.now visited.new told.new.count }
 {
     if is_visited(visited, s) {
         clear_visited(visited, s);
         status[s] = verdict;
         successor[s] = NO_SUCCESSOR;
-        return tell(s, count, news);
+        told.tell(s);
     }
-    count
 }
 
-// The news of a settled node: which state it names is said here alone.
-fn tell(node: usize, count: usize, news: &mut [u16]) -> usize
-    requires node_fits { node < 65536 }
-    requires news_has_room { count < length news.old }
-    ensures { Told node count news.old news.new result }
-{
-    // A cast: it is proved to fit, and `try_from` would bring an error that cannot happen.
-    news[count] = node as u16;
-    count + 1
+// The news of a settlement, in the front of the list.
+#[derive(Drop)]
+struct News<'a> {
+    pub list: &'a mut [u16],
+    pub count: usize,
+}
+
+impl News<'_> {
+    // The news of a settled node: which state it names is said here alone.
+    fn tell(&mut self, node: usize)
+        requires node_fits { node < 65536 }
+        requires news_has_room { self.old.count < length self.old.list.now }
+        ensures same { self.new.list.ghost_name ≡ self.old.list.ghost_name }
+        ensures told { Told node self.old.count self.old.list.now self.new.list.now self.new.count }
+    {
+        // A cast: it is proved to fit, and `try_from` would bring an error that cannot happen.
+        self.list[self.count] = node as u16;
+        self.count += 1;
+    }
 }

@@ -1,11 +1,12 @@
-// The closure along steps backwards. Queue length + number of unvisited nodes below n never grows, so the queue has room.
+// What leads to some nodes, along steps backwards. Queue length + number of unvisited nodes below n never grows, so the queue has room.
 ghost use Rattle.std.specs.Prelude.{◌≡◌, ℕ, Bool, ◌+◌, ◌≤◌, ◌<◌, length};
-ghost use Rattle.tables.specs.Tables.{visited_length};
-ghost use Rattle.tables.specs.Visits.{HasMark};
+ghost use Rattle.tables.specs.Visits.{HasMark, marked};
 ghost use Rattle.adjacency.specs.Adjacencies.{chains_of};
 ghost use Rattle.search.specs.Spreading.{into, Tells, unvisited, Queued, Spread};
-ghost use Rattle.search.specs.Offering.{Begun, Admitted, Offered, Offers, SourcesVisited};
+ghost use Rattle.search.specs.Offering.{no_span, Begun, Admitted, Offered, Offers, SourcesVisited};
+ghost use Rattle.search.specs.Working.{SameWorklist};
 
+use super::worklist::Worklist;
 use adjacency::Adjacency;
 use tables::{is_visited, set_visited};
 
@@ -17,94 +18,20 @@ pub struct Span {
     pub high: usize,
 }
 
-// From the queued nodes, visits over and over each allowed source of a visited node: `allows` says whether the source y of the step at index p
-// is allowed.
-pub fn spread<F: Fn(usize, usize) -> bool>(
-    allows: F,
-    starts: Span,
-    arcs: Adjacency,
-    queue: &mut [u16],
-    visited: &mut [u16],
-) -> Span
-    requires callable { (y p : ℕ) → y < arcs.n → F.pre allows y p }
-    requires tells { (ok : ℕ → ℕ → Bool) × Tells arcs.n (F.post allows) ok }
-    requires n_fits { arcs.n < 65536 }
-    requires queued { Queued arcs.n visited.old queue.old starts }
-    requires queue_in_bounds { arcs.n ≤ length queue.old }
-    requires visited_in_bounds { visited_length arcs.n ≤ length visited.old }
-    ensures { (ok : ℕ → ℕ → Bool) → Tells arcs.entry.n (F.post allows) ok →
-        Spread arcs.entry.n (into (chains_of arcs.entry)) ok
-        visited.old queue.old starts visited.new queue.new result }
-{
-    let mut span = starts;
-    let mut at = 0;
-    // The queue grows while it is gone through: no range and no iterator over it has an end that moves.
-    while at < span.len {
-        let x = usize::from(queue[at]);
-        span = offer_sources(&allows, x, span, arcs, queue, visited);
-        at += 1;
+impl Span {
+    // No node of n.
+    pub fn none(n: usize) -> Span
+        ensures { result ≡ no_span n }
+    {
+        Span {
+            len: 0,
+            low: n,
+            high: 0,
+        }
     }
-    span
 }
 
-// Offers the sources of all listed steps into x.
-fn offer_sources<F: Fn(usize, usize) -> bool>(
-    allows: &F,
-    x: usize,
-    before: Span,
-    arcs: Adjacency,
-    queue: &mut [u16],
-    visited: &mut [u16],
-) -> Span
-    requires callable { (y p : ℕ) → y < arcs.n → F.pre allows.now y p }
-    requires tells { (ok : ℕ → ℕ → Bool) × Tells arcs.n (F.post allows.now) ok }
-    requires in_range { x < arcs.n }
-    requires n_fits { arcs.n < 65536 }
-    requires queue_has_room { before.len + unvisited arcs.n visited.old ≤ arcs.n }
-    requires queue_in_bounds { arcs.n ≤ length queue.old }
-    requires visited_in_bounds { visited_length arcs.n ≤ length visited.old }
-    ensures offers { (ok : ℕ → ℕ → Bool) → Tells arcs.entry.n (F.post allows.now) ok →
-        Offers arcs.entry.n (into (chains_of arcs.entry)) ok
-        x visited.old queue.old before visited.new queue.new result }
-    ensures sources_visited { (ok : ℕ → ℕ → Bool) → Tells arcs.entry.n (F.post allows.now) ok →
-        SourcesVisited arcs.entry.n (into (chains_of arcs.entry)) ok visited.new x }
-{
-    let mut span = before;
-    for p in arcs.steps_at(x) {
-        let y = usize::from(arcs.ends[p]);
-        span = offer(allows, arcs.n, p, y, span, queue, visited);
-    }
-    span
-}
-
-// Admits y, the source of the step at index p, where it is a node, not visited, and allowed.
-fn offer<F: Fn(usize, usize) -> bool>(
-    allows: &F,
-    n: usize,
-    p: usize,
-    y: usize,
-    span: Span,
-    queue: &mut [u16],
-    visited: &mut [u16],
-) -> Span
-    requires callable { y < n → F.pre allows.now y p }
-    requires n_fits { n < 65536 }
-    requires queue_has_room { span.len + unvisited n visited.old ≤ n }
-    requires queue_in_bounds { n ≤ length queue.old }
-    requires visited_in_bounds { visited_length n ≤ length visited.old }
-    ensures { (ok : ℕ → ℕ → Bool) → Tells n (F.post allows.now) ok →
-        Offered n (ok y p) y visited.old queue.old span visited.new queue.new result }
-{
-    if n <= y || is_visited(visited, y) {
-        return span;
-    }
-    if allows(y, p) {
-        return admit(span, y, queue, visited);
-    }
-    span
-}
-
-// Visits and queues one node, as the first.
+// Visits and queues one node, as the first. This and `admit` are lent the two tables and no `Worklist`, which would ask more of a caller: docs/DECISIONS.md names them.
 pub fn begin(start: usize, queue: &mut [u16], visited: &mut [u16]) -> Span
     requires has_mark { HasMark visited.old start }
     requires queue_has_room { 0 < length queue.old }
@@ -135,5 +62,95 @@ pub fn admit(span: Span, y: usize, queue: &mut [u16], visited: &mut [u16]) -> Sp
         len: span.len + 1,
         low: span.low.min(y),
         high: span.high.max(y),
+    }
+}
+
+impl Worklist<'_> {
+    // A method of `&self`: after a shared borrow of the field in a method of `&mut self` the proof knows only that its length is the same.
+    #[tactic(auto, unfolding(tables::specs::Tables::visited_length))]
+    pub fn has_visited(&self, s: usize) -> bool
+        requires { s < self.now.n }
+        ensures { result ≡ marked self.now.visited.now s }
+    {
+        is_visited(self.visited, s)
+    }
+
+    // The search begins with one node.
+    #[tactic(auto, unfolding(tables::specs::Tables::visited_length))]
+    pub fn begin(&mut self, start: usize)
+        requires in_range { start < self.old.n }
+        ensures same { SameWorklist self.old self.new }
+        ensures begun { Begun start self.old.visited.now self.old.queue.now self.new.visited.now self.new.queue.now self.new.span }
+    {
+        let queue = &mut *self.queue;
+        let visited = &mut *self.visited;
+        self.span = begin(start, queue, visited);
+    }
+
+    // The search meets one more node.
+    #[tactic(auto, unfolding(tables::specs::Tables::visited_length))]
+    pub fn admit(&mut self, y: usize)
+        requires in_range { y < self.old.n }
+        requires queue_has_room { self.old.span.len < self.old.n }
+        ensures same { SameWorklist self.old self.new }
+        ensures admitted { Admitted y self.old.visited.now self.old.queue.now self.old.span self.new.visited.now self.new.queue.now self.new.span }
+    {
+        let span = self.span;
+        let queue = &mut *self.queue;
+        let visited = &mut *self.visited;
+        self.span = admit(span, y, queue, visited);
+    }
+
+    // From the queued nodes, visits over and over each allowed source of a visited node: `allows` says whether the source y of the step at index p
+    // is allowed. Each part that hands the closure on asks the same of it: a type that kept the closure with what it tells would be another type for each closure.
+    pub fn spread<F: Fn(usize, usize) -> bool>(&mut self, allows: F, arcs: Adjacency)
+        requires callable { (y p : ℕ) → y < arcs.n → F.pre allows y p }
+        requires tells { (ok : ℕ → ℕ → Bool) × Tells arcs.n (F.post allows) ok }
+        requires same_nodes { self.old.n ≡ arcs.n }
+        requires queued { Queued arcs.n self.old.visited.now self.old.queue.now self.old.span }
+        ensures same { SameWorklist self.old self.new }
+        ensures spread { (ok : ℕ → ℕ → Bool) → Tells arcs.entry.n (F.post allows) ok →
+            Spread arcs.entry.n (into (chains_of arcs.entry)) ok
+            self.old.visited.now self.old.queue.now self.old.span self.new.visited.now self.new.queue.now self.new.span }
+    {
+        let mut at = 0;
+        // The queue grows while it is gone through: no range and no iterator over it has an end that moves.
+        while at < self.span.len {
+            let x = usize::from(self.queue[at]);
+            self.offer_sources(&allows, x, arcs);
+            at += 1;
+        }
+    }
+
+    // Offers the sources of all listed steps into x.
+    fn offer_sources<F: Fn(usize, usize) -> bool>(&mut self, allows: &F, x: usize, arcs: Adjacency)
+        requires callable { (y p : ℕ) → y < arcs.n → F.pre allows.now y p }
+        requires tells { (ok : ℕ → ℕ → Bool) × Tells arcs.n (F.post allows.now) ok }
+        requires same_nodes { self.old.n ≡ arcs.n }
+        requires in_range { x < arcs.n }
+        requires queue_has_room { self.old.span.len + unvisited arcs.n self.old.visited.now ≤ arcs.n }
+        ensures same { SameWorklist self.old self.new }
+        ensures offers { (ok : ℕ → ℕ → Bool) → Tells arcs.entry.n (F.post allows.now) ok →
+            Offers arcs.entry.n (into (chains_of arcs.entry)) ok
+            x self.old.visited.now self.old.queue.now self.old.span self.new.visited.now self.new.queue.now self.new.span }
+        ensures sources_visited { (ok : ℕ → ℕ → Bool) → Tells arcs.entry.n (F.post allows.now) ok →
+            SourcesVisited arcs.entry.n (into (chains_of arcs.entry)) ok self.new.visited.now x }
+    {
+        for p in arcs.steps_at(x) {
+            self.offer(allows, p, usize::from(arcs.ends[p]));
+        }
+    }
+
+    // Admits y, the source of the step at index p, where it is a node, not visited, and allowed.
+    fn offer<F: Fn(usize, usize) -> bool>(&mut self, allows: &F, p: usize, y: usize)
+        requires callable { y < self.old.n → F.pre allows.now y p }
+        requires queue_has_room { self.old.span.len + unvisited self.old.n self.old.visited.now ≤ self.old.n }
+        ensures same { SameWorklist self.old self.new }
+        ensures offered { (ok : ℕ → ℕ → Bool) → Tells self.old.n (F.post allows.now) ok →
+            Offered self.old.n (ok y p) y self.old.visited.now self.old.queue.now self.old.span self.new.visited.now self.new.queue.now self.new.span }
+    {
+        if y < self.n && !self.has_visited(y) && allows(y, p) {
+            self.admit(y);
+        }
     }
 }

@@ -1,18 +1,19 @@
 -- The laws of first places: what is said of the first number below a bound that passes a test, and how it is found block by block.
 -- Assumes nothing.
 use mathlib.Core.Path.{◌≡◌, refl, sym, ◌∙◌}
-use mathlib.Core.Bool.{Bool, true, false, ◌&&◌, ◌||◌, false≢true}
+use mathlib.Core.Bool.{Bool, true, false, false≢true}
 use mathlib.Core.List.{List}
 use mathlib.Core.Option.{Option, some, none, some-injective, some-ne-none, none-ne-some}
-use Prim.Native.Nat.{ℕ, zero, suc, ◌+◌, ◌<◌, ◌≤◌}
+use Prim.Native.Nat.{ℕ, zero, suc, ◌<◌, ◌≤◌}
 use native.Mathlib.Omega.{arith}
-use native.Mathlib.Numerals.{add-one}
 use native.Mathlib.Decide.{ℕ_discrete}
 use lib.Dec.{eqb, ltb}
 use lib.ListN.{get_or}
-use borrow.Author.Tests.{ltb-true, ltb-false, eqb-true, eq-eqb}
+use borrow.Author.Tests.{ltb-true, ltb-false, eqb-true}
 use Rattle.gid.specs.declared.Edge.{Edge}
 use Rattle.tables.specs.Listing.{is_equal_at, first_below, first_place, is_found}
+use Rattle.std.specs.Prelude.{Option as Found, Some, None, MatchOption}
+use Rattle.steplist.specs.Places.{place_of}
 use Rattle.steplist.specs.Blocks.{NoPair}
 
 -- what the definition says of a last number that passes, of one that does not, and of one behind the first that passes
@@ -31,13 +32,6 @@ first_later f m e t = rw (e, t)
 first_stays : (f : ℕ → Bool) (m : ℕ) {p : ℕ} → first_below f m ≡ some p → first_below f (suc m) ≡ some p
 unfolding first_below
 first_stays f m e = rw e
-
--- the next number, as a loop counts
-pub first_at : (f : ℕ → Bool) (m : ℕ) → first_below f m ≡ none → f m ≡ true → first_below f (m + 1) ≡ some m
-first_at f m e t = rw (add-one m) (first_here f m e t)
-
-pub first_next : (f : ℕ → Bool) (m n : ℕ) → n ≡ m + 1 → first_below f m ≡ none → f m ≡ false → first_below f n ≡ none
-first_next f m n k e t = rw (k, add-one m) (first_later f m e t)
 
 module _ (f : ℕ → Bool) where
   -- There is none exactly where each number below the bound fails.
@@ -99,6 +93,13 @@ module _ (f : ℕ → Bool) where
   pub below_some : (m p : ℕ) → p < m → f p ≡ true → ((q : ℕ) → q < p → f q ≡ false) → first_below f m ≡ some p
   below_some m p h t n = found_stays (suc p) m (omega arith) (first_here f p (below_none p n) t)
 
+  -- None below a, and what is found from a up to b: that is the first below b.
+  pub first_between : (a b : ℕ) (r : Found ℕ) → first_below f a ≡ none →
+      MatchOption r ((p : ℕ) → a ≤ p → p < b → f p ≡ false) (λ p. (a ≤ p) × (p < b) × (f p ≡ true) × ((q : ℕ) → a ≤ q → q < p → f q ≡ false)) →
+      place_of r ≡ first_below f b
+  first_between a b None e n = sym (none_more a b e n)
+  first_between a b (Some p) e w = sym (found_stays (suc p) b (omega (arith, w.1)) (first_here f p (none_more a p e w.3) w.2))
+
   -- Whether one is found: a number below the bound that passes.
   pub found_by : (m p : ℕ) → p < m → f p ≡ true → is_found (first_below f m) ≡ true
   found_by m p h t = at (first_below f m) refl
@@ -140,12 +141,3 @@ unequal from to key e p n = at (eqb (get_or from p 0) e.from) refl (eqb (get_or 
 -- A block without the pair of ends leaves it at none.
 pub block_none : (from to key : List ℕ) (e : Edge) {a b : ℕ} → first_below (is_equal_at from to key e) a ≡ none → NoPair e.from e.to a b from to → first_below (is_equal_at from to key e) b ≡ none
 block_none from to key e {a} {b} z n = none_more (is_equal_at from to key e) a b z (λ p l h. unequal from to key e p (n p l h))
-
--- One place more of a block that is looked over.
-pub pair_next : (u v a p n : ℕ) (from to : List ℕ) (hit : Bool) → n ≤ p + 1 → (hit ≡ false → NoPair u v a p from to) → (hit || (eqb (get_or from p 0) u && eqb (get_or to p 0) v)) ≡ false → NoPair u v a n from to
-pair_next u v a p n from to true k o z = absurd (false≢true (sym z))
-pair_next u v a p n from to false k o z = λ q l h s t. at q l h s t (ℕ_discrete q p)
-  where
-    at : (q : ℕ) → a ≤ q → q < n → get_or from q 0 ≡ u → get_or to q 0 ≡ v → Dec (q ≡ p) → ⊥
-    at q l h s t (yes d) = false≢true (sym z ∙ rw (eq-eqb (get_or from p 0) u (rw d at s), eq-eqb (get_or to p 0) v (rw d at t)))
-    at q l h s t (no d) = o refl q l (omega arith) s t

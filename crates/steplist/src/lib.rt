@@ -29,9 +29,11 @@ pub struct Steps<'a> {
     pub ghost key_in_bounds: { len ≤ length key.now },
 }
 
-// Whether a step equal to this one is listed. Where the quick look meets one, the list need not be looked through.
+// Whether a step equal to this one is listed. Where the quick look meets one, the list need not be looked through. The chain is two slices: an
+// `Adjacency` would ask more of a caller, a list of ends beside them and fewer than 65,535 steps.
 pub fn is_listed(edge: Edge, steps: Steps, out_head: &[u16], out_next: &[u16]) -> bool
-    requires ends_fit { (edge.from < 65536) × (edge.to < 65536) }
+    requires source_fits { edge.from < 65536 }
+    requires target_fits { edge.to < 65536 }
     requires source_in_bounds { edge.from < length out_head.now }
     requires chain_in_bounds { steps.len ≤ length out_next.now }
     requires steps_fit { steps.len < 65536 }
@@ -46,7 +48,7 @@ fn near_repeat(edge: Edge, steps: Steps, mut walk: Walk) -> bool
     requires { walk.at ≤ steps.len }
     ensures { result ≡ true → is_listed_in steps.entry.len steps.entry.from.now steps.entry.to.now steps.entry.key.now edge ≡ true }
 {
-    // Measured: with `walk.take(QUICK)` in the place of this loop a repeat takes a twentieth more.
+    // As in `find_step`: with `walk.take(QUICK)` in the place of this loop a repeat takes a twentieth more.
     for _ in 0..QUICK {
         let Some(p) = walk.next() else {
             return false;
@@ -58,39 +60,25 @@ fn near_repeat(edge: Edge, steps: Steps, mut walk: Walk) -> bool
     false
 }
 
-// The first place of an equal step, block by block.
+// The first place of an equal step, block by block. The keys are looked at only where the ends are met.
 pub fn find_step(edge: Edge, steps: Steps) -> Option<usize>
-    requires ends_fit { (edge.from < 65536) × (edge.to < 65536) }
+    requires source_fits { edge.from < 65536 }
+    requires target_fits { edge.to < 65536 }
     ensures { place_of result ≡ first_place steps.entry.len steps.entry.from.now steps.entry.to.now steps.entry.key.now edge }
 {
-    // Measured over 8,192 steps: with `step_by(BLOCK)` in the place of this loop the search takes a tenth more.
+    // Casts: they are proved to fit, and `try_from` would bring errors that cannot happen.
+    let u = edge.from as u16;
+    let v = edge.to as u16;
+    // Tried, and it misses the bar of docs/DECISIONS.md, that no update costs more than it must: with `step_by(BLOCK)` in the place of this loop the search of 8,192 steps takes a tenth more.
     let mut start = 0;
     while start < steps.len {
         let end = steps.len.min(start + BLOCK);
-        if let Some(p) = find_in_block(edge, start, end, steps) {
+        if has_pair(u, v, start, end, steps.from, steps.to)
+            && let Some(p) = look(edge, start, end, steps)
+        {
             return Some(p);
         }
         start = end;
-    }
-    None
-}
-
-// The first place before end, where there is none before start. The keys are looked at only where the ends are met.
-fn find_in_block(edge: Edge, start: usize, end: usize, steps: Steps) -> Option<usize>
-    requires block_in_bounds { (start ≤ end) × (end ≤ steps.len) }
-    requires ends_fit { (edge.from < 65536) × (edge.to < 65536) }
-    requires none_before { first_place start steps.from.now steps.to.now steps.key.now edge ≡ none }
-    ensures { place_of result ≡ first_place end steps.entry.from.now steps.entry.to.now steps.entry.key.now edge }
-{
-    if has_pair(
-        edge.from as u16,
-        edge.to as u16,
-        start,
-        end,
-        steps.from,
-        steps.to,
-    ) {
-        return look(edge, start, end, steps);
     }
     None
 }
@@ -112,16 +100,15 @@ fn has_pair(u: u16, v: u16, start: usize, end: usize, from: &[u16], to: &[u16]) 
 
 // The closer look: the first place before end, where there is none before start.
 fn look(edge: Edge, start: usize, end: usize, steps: Steps) -> Option<usize>
-    requires block_in_bounds { (start ≤ end) × (end ≤ steps.len) }
+    requires end_in_bounds { end ≤ steps.len }
     requires none_before { first_place start steps.from.now steps.to.now steps.key.now edge ≡ none }
     ensures { place_of result ≡ first_place end steps.entry.from.now steps.entry.to.now steps.entry.key.now edge }
 {
-    for p in start..end {
-        if is_equal_at(edge, p, steps) {
-            return Some(p);
-        }
-    }
-    None
+    (start..end).find(
+        |&p|
+            requires { p < steps.len }
+        { is_equal_at(edge, p, steps) },
+    )
 }
 
 fn is_equal_at(edge: Edge, p: usize, steps: Steps) -> bool

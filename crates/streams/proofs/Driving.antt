@@ -1,13 +1,12 @@
 -- The turns of a program: what holds before each.
 -- Assumes nothing.
-use Rattle.std.proofs.Common.{◌≡◌, sym, ◌∙◌, List, [], ◌++◌, ℕ, ◌≤◌, length, take, subst, arith}
+use Rattle.std.proofs.Common.{◌≡◌, sym, ◌∙◌, List, ◌++◌, ℕ, ◌≤◌, length, take, subst, arith}
 use Rattle.tables.specs.Tables.{Tables}
 use Rattle.reader.specs.declared.task.Task.{Task}
 use Rattle.reader.specs.declared.task.Task.TheVariants.{Read, Write}
 use Rattle.streams.specs.declared.Served.{Served}
 use Rattle.streams.specs.declared.Served.TheVariants.{Piece}
 use Rattle.streams.specs.Serving.{Serves, read, wrote, over, failed}
-use Rattle.streams.specs.Driving.{Standing}
 use Rattle.streams.proofs.Serving.{served_fits}
 
 module _ {S : Type 0} (stands : (got put : List ℕ) → S → (piece output : List ℕ) → Tables → Type 0) where
@@ -32,9 +31,3 @@ module _ {S : Type 0} (stands : (got put : List ℕ) → S → (piece output : L
         record { got = v.got; put = v.put ++ take end output; so = w v.got v.put e (subst (λ x. stands v.got v.put s x output t) (sym same) v.so); fits = served_fits (wrote e q i) z v.fits }
     turns_more end v (over e q i) z f w = absurd (let x : ◌≡◌ {A = ℕ} 0 1 = cc in omega arith)
     turns_more end v (failed q i) z f w = absurd (let x : ◌≡◌ {A = ℕ} 0 1 = cc in omega arith)
-
-  pub turns_none : {s : S} {output : List ℕ} {t : Tables} (input : List ℕ) → stands [] [] s [] output t → Turns s 0 input output t
-  turns_none input h = record { got = []; put = []; so = h; fits = omega arith }
-
-  pub turns_stand : {s : S} {count : ℕ} {input output : List ℕ} {t : Tables} → Turns s count input output t → Standing stands s output t
-  turns_stand {count = count} {input = input} v = record { got = v.got; put = v.put; piece = take count input; so = v.so }

@@ -2,9 +2,8 @@
 -- Assumes nothing.
 use Rattle.std.proofs.Common.{◌≡◌, sym, ◌∙◌, List, ℕ, ◌≤◌, length, arith}
 use Rattle.reader.specs.declared.task.Task.{Task}
-use Rattle.reader.specs.declared.task.Task.TheVariants.{End}
 use Rattle.streams.specs.declared.Served.{Served}
-use Rattle.streams.specs.declared.Served.TheVariants.{Piece, Over}
+use Rattle.streams.specs.declared.Served.TheVariants.{Piece}
 use Rattle.streams.specs.Serving.{Serves, read, wrote, over, failed}
 
 module _ {task : Task} {count : ℕ} {input input' : List ℕ} {r : Served} where
@@ -14,10 +13,3 @@ module _ {task : Task} {count : ℕ} {input input' : List ℕ} {r : Served} wher
   served_fits {n} (wrote e q i) z k = let x : n ≡ count = let w : Piece n ≡ Piece count = sym z ∙ q in cc in rw (x, i) k
   served_fits (over e q i) z k = absurd (let w : ◌≡◌ {A = ℕ} 0 1 = cc in omega arith)
   served_fits (failed q i) z k = absurd (let w : ◌≡◌ {A = ℕ} 0 1 = cc in omega arith)
-
-  -- that was the last text
-  pub served_over : Serves task count input input' r → r ≡ Over → task ≡ End
-  served_over (read e q n) z = absurd (let w : ◌≡◌ {A = ℕ} 0 1 = cc in omega arith)
-  served_over (wrote e q i) z = absurd (let w : ◌≡◌ {A = ℕ} 0 1 = cc in omega arith)
-  served_over (over e q i) z = e
-  served_over (failed q i) z = absurd (let w : ◌≡◌ {A = ℕ} 0 1 = cc in omega arith)

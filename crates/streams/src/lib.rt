@@ -8,15 +8,12 @@ ghost use Rattle.streams.specs.declared.Served.{Served};
 ghost use Rattle.streams.specs.Driving.{Standing};
 ghost use Rattle.streams.specs.Serving.{Serves};
 
-mod drive;
-
-pub use drive::Drive;
-use reader::Task;
+use reader::{Drive, Task};
 use std::io::Read;
 use std::rt::Env;
 use tables::LentTables;
 
-// What came of a task: three outcomes, which `Serves` names, and none an error to hand on.
+// What came of a task, by the cases that `Serves` and the contract of `is_over` name.
 #[derive(Clone, Copy)]
 pub enum Served {
     // So many bytes of the input buffer are the piece to call with.
@@ -52,7 +49,7 @@ impl<R: Env + Print, E: Print> Streams<'_, R, E> {
             return false;
         }
         if words == 2 && self.asks_for_help() {
-            self.write_text(usage, usage.len());
+            self.write_text(usage);
         } else {
             // Where standard error cannot be written there is nobody left to tell.
             let _ = self.errors.write_all(usage);
@@ -74,7 +71,7 @@ fn is_help(word: [u8; 6]) -> bool
 }
 
 impl<R: Input + Print, E: Print> Streams<'_, R, E> {
-    // Does a task. `count` is the length of the piece at hand, `end` that of the text in the output. A read that fails counts as the end of the input, and standard error says so.
+    // Does a task. `count` is the length of the piece at hand, `end` that of the text in the output, which no caller owes to be within it. A read that fails counts as the end of the input, and standard error says so. The task is a value that a library answers, which has no streams to close over, and `Serves` says what comes of each.
     pub fn serve(
         &self,
         task: Task,
@@ -85,10 +82,11 @@ impl<R: Input + Print, E: Print> Streams<'_, R, E> {
     ) -> Served
         ensures { Serves task count input.old input.new result }
     {
+        let text = &output[..end.min(output.len())];
         match task {
             Task::Read => Served::Piece(self.read_piece(input)),
-            Task::Write if self.write_text(output, end) => Served::Piece(count),
-            Task::End if self.write_text(output, end) => Served::Over,
+            Task::Write if self.write_text(text) => Served::Piece(count),
+            Task::End if self.write_text(text) => Served::Over,
             _ => Served::Failed,
         }
     }
@@ -131,9 +129,9 @@ impl<R: Input + Print, E: Print> Streams<'_, R, E> {
 }
 
 impl<R: Print, E: Print> Streams<'_, R, E> {
-    // Writes the front of a text to standard output, and answers whether that could be done.
-    fn write_text(&self, text: &[u8], end: usize) -> bool {
-        let written = self.rt.write_all(&text[..end.min(text.len())]).is_ok();
+    // Writes a text to standard output, and answers whether that could be done.
+    fn write_text(&self, text: &[u8]) -> bool {
+        let written = self.rt.write_all(text).is_ok();
         if !written {
             self.say(b": cannot write standard output\n");
         }

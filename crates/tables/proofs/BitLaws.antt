@@ -71,20 +71,20 @@ pub weight_below : (k e : ℕ) → has_bit k e ≡ true → 2 ^ k ≤ e
 weight_below k e z = weight_within k e (is_set k e z)
 
 -- The entry with a bit set, where it was not.
-pub with_new : (k e : ℕ) → has_bit k e ≡ false → with_bit k e ≡ e + 2 ^ k
+with_new : (k e : ℕ) → has_bit k e ≡ false → with_bit k e ≡ e + 2 ^ k
 unfolding with_bit
 with_new k e z = rw z
 
-pub with_old : (k e : ℕ) → has_bit k e ≡ true → with_bit k e ≡ e
+with_old : (k e : ℕ) → has_bit k e ≡ true → with_bit k e ≡ e
 unfolding with_bit
 with_old k e z = rw z
 
 -- The entry with a bit cleared, where it was set.
-pub without_old : (k e : ℕ) → has_bit k e ≡ true → without_bit k e ≡ e - 2 ^ k
+without_old : (k e : ℕ) → has_bit k e ≡ true → without_bit k e ≡ e - 2 ^ k
 unfolding without_bit
 without_old k e z = rw z
 
-pub without_none : (k e : ℕ) → has_bit k e ≡ false → without_bit k e ≡ e
+without_none : (k e : ℕ) → has_bit k e ≡ false → without_bit k e ≡ e
 unfolding without_bit
 without_none k e z = rw z
 
@@ -121,6 +121,10 @@ bit_room w k e l r = at (has_bit k e) refl
     at : (b : Bool) → has_bit k e ≡ b → with_bit k e < 2 ^ w
     at true z = rw (with_old k e z) r
     at false z = rw (with_new k e z) (add_room w k e l r (clear k e z))
+
+-- The weight of a bit that is not set fits into the entry.
+pub weight_room : (k e : ℕ) → k < 16 → e < 65536 → has_bit k e ≡ false → e + 2 ^ k < 65536
+weight_room k e l r z = rw (with_new k e z) at (bit_room 16 k e l r)
 
 -- Clearing a bit clears it,
 pub cleared_same : (k e : ℕ) → has_bit k (without_bit k e) ≡ false

@@ -7,13 +7,12 @@ use mathlib.Core.Option.{Option, some, none}
 use Prim.Native.Nat.{ℕ, ◌<◌, ◌≤◌}
 use native.Mathlib.Omega.{arith}
 use lib.Dec.{leb, ltb, eqb}
-use borrow.Author.Tests.{leb-false, eqb-false, ltb-false, not-false}
+use borrow.Author.Tests.{eqb-false, ltb-false, not-false}
 use lib.ListN.{get_or}
 use Rattle.gid.specs.declared.Edge.{Edge}
 use Rattle.gid.specs.declared.Update.{Update}
 use Rattle.gid.specs.declared.Update.TheVariants.{Step, Terminal, Close}
 use Rattle.gid.specs.Refusals.{Given, Rule, first, lent, sent, refusal, max_states, max_steps, max_key}
-use Rattle.std.specs.Prelude.{Result, Ok, Err}
 use Rattle.tables.specs.declared.Graph.{Graph}
 use Rattle.tables.specs.declared.refusal.Refusal.{Refusal}
 use Rattle.tables.specs.declared.refusal.Refusal.TheVariants.{BadStates, BadLimit, ShortTable, ExcessSteps, OutOfRange, ClosedSource, ListFull, BadKey, BadNames, Malformed, TooManyLines, BadCount, ShortBuffer}
@@ -21,7 +20,7 @@ use Rattle.tables.specs.Numbers.{number_of}
 use Rattle.tables.specs.Tables.{Tables, visited_length, long_enough_by, long_enough}
 use Rattle.tables.specs.Marks.{has_closed}
 use Rattle.tables.specs.Listing.{listed_on}
-use Rattle.tables.specs.Refused.{code, in_range, is_full, given, refusal_by, refusal_on, none_listed, is_again, lent_rules, number, lent_number, sent_number, place_number}
+use Rattle.tables.specs.Refused.{is_full, given, refusal_by, refusal_on, none_listed, is_again, lent_rules, number, lent_number, sent_number, place_number}
 
 -- No rule of the list has the number 0.
 abbrev pub Positive : List Rule → Type 0
@@ -156,14 +155,6 @@ lent_leaves g long e =
       longs = not-false long p.1.1.0;
       room = ltb-false g.limit g.steps p.1.1.1.0;
     }
-
--- A state that passes the test 5 is one of the first n.
-pub in_range_leaves : (g : Graph) (s : ℕ) → code (in_range g s) ≡ 0 → s < g.n
-in_range_leaves g s e = leb-false g.n s (at (leb g.n s) e)
-  where
-    at : (b : Bool) → code (cond {A = Result (Unit {0}) Refusal} b (Err OutOfRange) (Ok tt)) ≡ 0 → b ≡ false
-    at true z = absurd (let y : ◌≡◌ {A = ℕ} 5 0 = z in omega arith)
-    at false z = refl
 
 -- No refusal has the number 0.
 pub number_positive : (r : Refusal) → number_of r ≡ 0 → ⊥

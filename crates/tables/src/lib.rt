@@ -34,7 +34,7 @@ pub const MAX_VISITED: usize = (MAX_STATES + 15) / 16;
 pub const MAX_STEPS: usize = 8192;
 // "Each step now carries a key, 0 to 31"
 pub const MAX_KEY: usize = 31;
-// "For every other state the entry is 65,535."
+// "For every other state the entry is 65,535." An entry of the lent table, which C reads.
 pub const NO_SUCCESSOR: u16 = 65535;
 
 // "0 unseen, 1 open, 2 unknown, 3 live, 4 dead": entries of the lent tables, which C reads and which may hold any byte, and so no enum.

@@ -37,6 +37,7 @@ impl From<Refusal> for u8 {
     ghost from_gives = { λ refusal number. number ≡ number_of refusal };
 
     fn from(refusal: Refusal) -> u8 {
+        // The cast is the conversion: an enum has its own numbers.
         refusal as u8
     }
 }

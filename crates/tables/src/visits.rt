@@ -1,4 +1,5 @@
-// The visited marks of a search, a bit for each node, read and written here alone: that of the node s is bit s % 16 of the entry s / 16.
+// The visited marks of a search, a bit for each node, read and written one by one here alone: that of the node s is bit s % 16 of the entry s / 16. Where none is to be left, a table is filled with 0.
+// Each function asks that the node has a mark, and is lent the marks as a slice: docs/ARCHITECTURE.md names these calls, and the table check reads marks that no search has. `mark` and `unmark` say what setting and clearing are.
 ghost use Rattle.std.specs.Prelude.{◌≡◌, ◌%◌, ◌<◌};
 ghost use Rattle.tables.specs.Tables.{visited_length};
 ghost use Rattle.tables.specs.Visits.{HasMark, marked, mark, unmark, NoneBetween};
@@ -40,8 +41,10 @@ pub fn clear_visited(visited: &mut [u16], s: usize)
 // A node behind s, with none visited between: the next one or, where no mark is set in the entry of s, the first of the next entry.
 #[tactic(auto, using(crate::proofs::Marking::blank_between), unfolding(crate::specs::Tables::visited_length))]
 pub fn skip_unvisited(visited: &[u16], s: usize) -> usize
-    requires { HasMark visited.now s × (s < 65536) }
-    ensures { (s < result) × NoneBetween visited.now s result }
+    requires has_mark { HasMark visited.now s }
+    requires s_fits { s < 65536 }
+    ensures onward { s < result }
+    ensures none_between { NoneBetween visited.now s result }
 {
     if visited[s / 16] == 0 {
         return s / 16 * 16 + 16;

@@ -7,7 +7,7 @@ use Prim.Native.Nat.{ℕ, zero, suc, ◌+◌, ◌/◌, ◌≤◌, ◌<◌}
 use native.Mathlib.Omega.{arith}
 use native.Mathlib.Numerals.{add-one}
 use native.Mathlib.Decide.{ℕ_discrete}
-use lib.ListN.{length, take, length-append}
+use lib.ListN.{length, get_or, take, length-append}
 use Rattle.std.proofs.lemmas.List.{length-take-le, get_or-take}
 use Rattle.gid.specs.declared.Edge.{Edge}
 use Rattle.gid.specs.declared.Update.{Update}
@@ -15,6 +15,9 @@ use Rattle.gid.specs.declared.Update.TheVariants.{Step, Terminal, Close}
 use Rattle.record.specs.declared.line.Form.TheVariants.{Keyed}
 use Rattle.record.specs.Text.{decimal, states_line, text, max_value, Within}
 use Rattle.record.proofs.Decimals.{decimal_digit, five_digits as most}
+use Rattle.record.specs.declared.text.TextBuffer.{TextBuffer}
+use Rattle.record.specs.Putting.{Puts}
+use Rattle.record.proofs.Putting.{puts_then}
 use Rattle.record.proofs.Writing.{room_more, step_length, mark_length}
 use Rattle.writer.specs.declared.marking.LineMark.{LineMark}
 use Rattle.writer.specs.declared.marking.LineMark.TheVariants.{Terminal as ForTerminal, Close as ForClose}
@@ -41,14 +44,18 @@ four_digits v p q = more_digits v 3 (omega arith) (three_digits (v / 10) (omega 
 pub five_digits : (v : ℕ) → 10000 ≤ v → v < 100000 → length (decimal v) ≡ 5
 five_digits v p q = more_digits v 4 (omega arith) (four_digits (v / 10) (omega arith) (omega arith))
 
+-- a line has its newline behind its text
+pub line_length : (x : Update) → length (line_bytes x) ≡ length (text Keyed x) + 1
+line_length x = length-append (text Keyed x) (10 ∷ [])
+
 pub step_size : (e : Edge) → length (line_bytes (Step e)) ≡ length (decimal e.from) + length (decimal e.to) + length (decimal e.key) + 5
-step_size e = omega (arith, length-append (text Keyed (Step e)) (10 ∷ []), step_length e)
+step_size e = omega (arith, line_length (Step e), step_length e)
 
 pub terminal_size : (u : ℕ) → length (line_bytes (Terminal u)) ≡ length (decimal u) + 7
-terminal_size u = omega (arith, length-append (text Keyed (Terminal u)) (10 ∷ []), mark_length 84 u)
+terminal_size u = omega (arith, line_length (Terminal u), mark_length 84 u)
 
 pub close_size : (u : ℕ) → length (line_bytes (Close u)) ≡ length (decimal u) + 7
-close_size u = omega (arith, length-append (text Keyed (Close u)) (10 ∷ []), mark_length 67 u)
+close_size u = omega (arith, line_length (Close u), mark_length 67 u)
 
 -- a line has at most 20 bytes
 pub line_bound : (x : Update) → Within Keyed x → length (line_bytes x) ≤ 20
@@ -149,8 +156,19 @@ cut_record n m marks from to key a b =
     )
 
 -- The same of what a source has: the head, the lines of the terminal marks, of the steps and of the closes.
-pub source_parts : (s : Source) → source_record s ≡ ((head_bytes (length s.marks.now) ++ bytes_of (marked_lines ForTerminal (length s.marks.now) s.marks.now)) ++ bytes_of (listed_lines s)) ++ bytes_of (marked_lines ForClose (length s.marks.now) s.marks.now)
+source_parts : (s : Source) → source_record s ≡ ((head_bytes (length s.marks.now) ++ bytes_of (marked_lines ForTerminal (length s.marks.now) s.marks.now)) ++ bytes_of (listed_lines s)) ++ bytes_of (marked_lines ForClose (length s.marks.now) s.marks.now)
 source_parts s = parts (length s.marks.now) (length s.from.now) s.marks.now s.from.now s.to.now s.key.now
 
 pub source_size : (s : Source) → length (source_record s) ≡ length (head_bytes (length s.marks.now)) + length (bytes_of (marked_lines ForTerminal (length s.marks.now) s.marks.now)) + length (bytes_of (listed_lines s)) + length (bytes_of (marked_lines ForClose (length s.marks.now) s.marks.now))
 source_size s = omega (arith, head_size (length s.marks.now), record_size (length s.marks.now) (length s.from.now) s.marks.now s.from.now s.to.now s.key.now)
+
+-- There is room for the lines of a state more, and of a step more, where there is room for all.
+pub marks_room : (k : LineMark) (marks : List ℕ) (i : ℕ) → i < length marks → length (bytes_of (marked_lines k i marks)) + length (bytes_of (mark_line k (get_or marks i 0) i)) ≤ length (bytes_of (marked_lines k (length marks) marks))
+marks_room k marks i h = order_room (is_marked k marks) (marking k) i (length marks) h
+
+pub steps_room : (from to key : List ℕ) (i : ℕ) → i < length from → length (bytes_of (step_lines i from to key)) + length (line_bytes (step_at from to key i)) ≤ length (bytes_of (step_lines (length from) from to key))
+steps_room from to key i h = rw bytes_one at (order_room (λ p. true) (step_at from to key) i (length from) h)
+
+-- The record is put part by part.
+pub record_put : (s : Source) {p q r t u : TextBuffer} → Puts (head_bytes (length s.marks.now)) p q → Puts (bytes_of (marked_lines ForTerminal (length s.marks.now) s.marks.now)) q r → Puts (bytes_of (listed_lines s)) r t → Puts (bytes_of (marked_lines ForClose (length s.marks.now) s.marks.now)) t u → Puts (source_record s) p u
+record_put s w x y z = rw (source_parts s) (puts_then (puts_then (puts_then w x) y) z)

@@ -10,6 +10,7 @@ use native.Mathlib.Omega.{arith}
 use native.Mathlib.Decide.{ℕ_discrete}
 use lib.ListN.{get_or, take}
 use lib.Seq.{take-suc, take-length}
+use Rattle.std.proofs.lemmas.Bool.{false_from_ne_true}
 use Rattle.gid.specs.declared.Edge.{Edge}
 use Rattle.gid.specs.declared.Update.{Update}
 use Rattle.gid.specs.declared.Update.TheVariants.{Step, Terminal, Close}
@@ -118,11 +119,7 @@ module _ (marks from to key : List ℕ) where
       (new_listed (following h (step_lines m from to key)) (edge_at from to key m) (rw older new) ∙ rw older)
     where
       new : is_in (firsts m from to key) (edge_at from to key m) ≡ false
-      new = fails (is_in (firsts m from to key) (edge_at from to key m)) (λ q. let r = firsts_in m (edge_at from to key m) q in d r.0 m r.1 (omega arith) (ap (λ (e : Edge). e.from) r.2) (ap (λ (e : Edge). e.to) r.2) (ap (λ (e : Edge). e.key) r.2))
-        where
-          fails : (b : Bool) → (b ≡ true → ⊥) → b ≡ false
-          fails true n = absurd (n refl)
-          fails false n = refl
+      new = false_from_ne_true (is_in (firsts m from to key) (edge_at from to key m)) (λ q. let r = firsts_in m (edge_at from to key m) q in d r.0 m r.1 (omega arith) (ap (λ (e : Edge). e.from) r.2) (ap (λ (e : Edge). e.to) r.2) (ap (λ (e : Edge). e.key) r.2))
 
 module _ (n m : ℕ) (marks from to key : List ℕ) where
   abbrev terminals : History

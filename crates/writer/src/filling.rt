@@ -9,6 +9,7 @@ use crate::source::Source;
 use record::TextBuffer;
 
 // A state's line, where it has one.
+#[tactic(auto, using(crate::proofs::Bytes::line_length, crate::proofs::Bytes::line_size, crate::proofs::Bytes::no_line, record::proofs::Putting::puts_none))]
 fn put_marked(text: &mut TextBuffer, mark: LineMark, byte: u8, state: usize)
     requires { text.old.end + length (bytes_of (mark_line mark byte state)) ≤ length text.old.buf.now }
     ensures { Puts (bytes_of (mark_line mark byte state)) text.old text.new }
@@ -18,7 +19,8 @@ fn put_marked(text: &mut TextBuffer, mark: LineMark, byte: u8, state: usize)
     }
 }
 
-// "by rising state". A loop by itself beside that of the steps, here and in sizes.rt: a state may have no line.
+// "by rising state". A loop by itself beside that of the steps: a state may have no line, so that one loop for both would take each line as an `Option`.
+#[tactic(auto, using(crate::proofs::Bytes::order_none, crate::proofs::Bytes::marks_room, record::proofs::Putting::puts_none))]
 fn put_marks(text: &mut TextBuffer, mark: LineMark, marks: &[u8])
     requires { text.old.end + length (bytes_of (marked_lines mark (length marks.now) marks.now)) ≤ length text.old.buf.now }
     ensures { Puts (bytes_of (marked_lines mark (length marks.now) marks.now)) text.old text.new }
@@ -29,6 +31,7 @@ fn put_marks(text: &mut TextBuffer, mark: LineMark, marks: &[u8])
 }
 
 // "steps in list order"
+#[tactic(auto, using(crate::proofs::Bytes::line_length, crate::proofs::Bytes::order_none, crate::proofs::Bytes::steps_room, record::proofs::Putting::puts_none))]
 fn put_steps(text: &mut TextBuffer, source: Source)
     requires { text.old.end + length (bytes_of (listed_lines source)) ≤ length text.old.buf.now }
     ensures { Puts (bytes_of (listed_lines source.entry)) text.old text.new }
@@ -49,6 +52,7 @@ fn put_head(text: &mut TextBuffer, n: usize)
 }
 
 // The head of the record, then "T lines by rising state, steps in list order, C lines by rising state"
+#[tactic(auto, using(crate::proofs::Bytes::source_size, crate::proofs::Bytes::record_put))]
 pub fn put_record(text: &mut TextBuffer, source: Source)
     requires { text.old.end + length (source_record source) ≤ length text.old.buf.now }
     ensures { Puts (source_record source.entry) text.old text.new }

@@ -16,7 +16,7 @@ use sizes::record_size;
 use source::Source;
 use tables::{Graph, Refusal};
 
-// "It tests 1 to 4, then 13": nothing is written before the tests. It changes no table. The answer is the place after the last byte.
+// "It tests 1 to 4, then 13": nothing is written before the tests. It changes no table. The answer is the place after the last byte. The tables are lent one by one, and the buffer with the place: README.md names the call, and `Writes` speaks of both.
 pub fn write(
     graph: Graph,
     marks: &[u8],

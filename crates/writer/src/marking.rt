@@ -4,7 +4,7 @@ ghost use Rattle.writer.specs.Order.{has_mark, marking};
 
 use gid::Update;
 
-// "uses only the marks 2 and 4": no line says that a state is named, so that these two have an enum beside the marks of a state.
+// "uses only the marks 2 and 4": an enum beside that of a state's marks, of which the third, that a state is named, has no line: with it `marking` would need an update that there is none of.
 #[derive(Clone, Copy)]
 pub enum LineMark {
     Terminal,

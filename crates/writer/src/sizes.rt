@@ -11,9 +11,11 @@ use crate::source::Source;
 use gid::Update;
 
 // How many digits a value has.
+#[tactic(auto, using(crate::proofs::Bytes::one_digit, crate::proofs::Bytes::two_digits, crate::proofs::Bytes::three_digits, crate::proofs::Bytes::four_digits, crate::proofs::Bytes::five_digits))]
 fn digits(value: usize) -> usize
     requires { value ≤ max_value }
-    ensures { (result ≡ length (decimal value)) × (result ≤ 5) }
+    ensures right { result ≡ length (decimal value) }
+    ensures bounded { result ≤ 5 }
 {
     match value {
         0..=9 => 1,
@@ -36,6 +38,7 @@ fn line_size(update: Update) -> usize
 }
 
 // The length of a state's line, 0 where it has none.
+#[tactic(auto, using(crate::proofs::Bytes::line_size, crate::proofs::Bytes::no_line))]
 fn mark_size(mark: LineMark, byte: u8, state: usize) -> usize
     requires { state ≤ max_value }
     ensures { result ≡ length (bytes_of (mark_line mark byte state)) }
@@ -47,6 +50,8 @@ fn mark_size(mark: LineMark, byte: u8, state: usize) -> usize
     }
 }
 
+// A state may have no line, so that one loop for marks and steps would take each line as an `Option`.
+#[tactic(auto, using(crate::proofs::Bytes::order_none, crate::proofs::Bytes::order_size, crate::proofs::Bytes::mark_bound))]
 fn marks_size(mark: LineMark, marks: &[u8]) -> usize
     requires { length marks.now ≤ max_states }
     ensures right { result ≡ length (bytes_of (marked_lines mark (length marks.now) marks.now)) }
@@ -59,6 +64,7 @@ fn marks_size(mark: LineMark, marks: &[u8]) -> usize
     size
 }
 
+#[tactic(auto, using(crate::proofs::Bytes::bytes_one, crate::proofs::Bytes::order_none, crate::proofs::Bytes::order_size, crate::proofs::Bytes::line_bound))]
 fn steps_size(source: Source) -> usize
     ensures right { result ≡ length (bytes_of (listed_lines source.entry)) }
     ensures bounded { result ≤ 20 * length source.entry.from.now }
@@ -71,6 +77,7 @@ fn steps_size(source: Source) -> usize
 }
 
 // The length of the record. Its head has 25 bytes and the count's digits.
+#[tactic(auto, using(crate::proofs::Bytes::head_size, crate::proofs::Bytes::source_size))]
 pub fn record_size(source: Source) -> usize
     ensures { result ≡ length (source_record source.entry) }
 {

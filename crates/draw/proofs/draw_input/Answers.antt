@@ -4,4 +4,4 @@ use Rattle.picture.proofs.Session.{progress_begun}
 use Rattle.draw.proofs.draw_input.Goals as goal
 
 pub drive-over-requires : goal.drive-over-requires
-drive-over-requires g c = (c.requires.room, progress_begun c.begin.ensures.begins c.requires.opens)
+drive-over-requires g c = record { room = c.requires.room; progress = progress_begun c.begin-drawer.ensures.begins c.requires.opens }

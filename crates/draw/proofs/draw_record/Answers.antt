@@ -1,11 +1,10 @@
 -- `draw_record` lends tables and buffers that are long enough.
 -- Assumes nothing.
-use mathlib.Core.Path.{refl, sym}
+use mathlib.Core.Path.{sym}
 use Prim.Native.Nat.{ℕ, ◌≤◌}
 use native.Mathlib.Omega.{arith}
 use lib.ListN.{length, replicate}
 use Rattle.std.proofs.lemmas.List.{length-replicate}
-use Rattle.tables.specs.Tables.{visited_length}
 use Rattle.draw.proofs.draw_record.Goals as goal
 
 -- An array of one byte has its length, whatever the length is.
@@ -17,7 +16,3 @@ slice_bounds-draw_input-end-2 g c = sym (length-replicate {A = ℕ} 557056 0)
 
 pub draw_input-requires-clause-room : goal.draw_input-requires-clause-room
 draw_input-requires-clause-room g c = room 557056
-
-pub draw_input-requires-clause-opens : goal.draw_input-requires-clause-opens
-unfolding visited_length
-draw_input-requires-clause-opens g c = refl

@@ -1,19 +1,12 @@
--- `look` answers the first place before end. The loop's invariant: none of the places passed holds an equal step.
+-- `look` answers the first place before end: none is before start, and it takes the first from there that passes.
 -- Assumes nothing.
-use Rattle.std.proofs.Common.{sym, ◌∙◌, ◌+◌, arith}
+use Rattle.std.proofs.Common.{rules}
+use Rattle.std.proofs.lemmas.Iterator.{first_from_Range}
 use Rattle.tables.specs.Listing.{is_equal_at}
-use Rattle.steplist.proofs.Places.{first_at, first_next, found_stays}
+use Rattle.steplist.proofs.Places.{first_between}
 use Rattle.steplist.proofs.look.Goals as goal
 
-pub returns-then-is_equal_at : goal.returns-then-is_equal_at
-returns-then-is_equal_at c =
-    let a = c.args in
-    let f = is_equal_at a.steps.from.now a.steps.to.now a.steps.key.now a.edge in
-    let p = c.loop-p.p in
-    sym (found_stays f (p + 1) a.end (omega arith) (first_at f p c.loop-p.invariant (sym c.is_equal_at.ensures ∙ c.if-is_equal_at.true)))
-
-pub loop-p-preserved : goal.loop-p-preserved
-loop-p-preserved c =
-    let a = c.args in
-    let f = is_equal_at a.steps.from.now a.steps.to.now a.steps.key.now a.edge in
-    first_next f c.loop-p.p (c.loop-p.p + 1) (omega arith) c.loop-p.invariant (sym c.is_equal_at.ensures ∙ c.if-is_equal_at.false)
+pub returns : goal.returns
+returns c =
+    first_between (is_equal_at c.args.steps.from.now c.args.steps.to.now c.args.steps.key.now c.args.edge) c.args.start c.args.end c.find.result c.requires.none_before
+    (first_from_Range _ _ _ _ _ _ c.find.ensures.ran (λ p q k. search rules) (λ p q k. (search rules, search rules)))

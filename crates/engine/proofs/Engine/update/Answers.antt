@@ -4,7 +4,6 @@ use Rattle.std.proofs.Common.{rules, Err}
 use mathlib.Core.Path.{◌≡◌, refl, sym, ap, ◌∙◌}
 use mathlib.Core.Bool.{Bool}
 use Prim.Native.Nat.{ℕ}
-use native.Mathlib.Omega.{arith}
 use lib.ListN.{length}
 use Rattle.gid.specs.declared.Update.{Update}
 use Rattle.tables.specs.declared.Graph.{Graph}
@@ -15,7 +14,7 @@ use Rattle.tables.specs.Refused.{is_full, lent_number, sent_number, place_number
 use Rattle.engine.specs.Done.{Room}
 use Rattle.engine.specs.Preparing.{InRange, Storable}
 use Rattle.engine.proofs.Acting.{in_range_wider}
-use Rattle.engine.proofs.Promising.{room_of, passed_of, storable_of, lookable, listable, markable, walkable, lent_kept, sent_kept, full_kept, again_kept, done_of, done_kept}
+use Rattle.engine.proofs.Promising.{room_of, passed_of, storable_of, lookable, listable, chainable, walkable, lent_kept, sent_kept, full_kept, again_kept, done_of, done_kept}
 use Rattle.engine.proofs.Engine.update.Goals as goal
 use Rattle.engine.proofs.Engine.update.Goals.{In_ok-lent}
 
@@ -57,23 +56,29 @@ invariant_of-steps c =
     let l = (lookable _ c.args.update t (room (goal.at.invariant_of-steps c).In_ok-lent) (ranged _ t c.args.update c.in_ok-sent.ensures)).1 in
     record { from_in_bounds = l.0; to_in_bounds = l.1; key_in_bounds = l.2 }
 
+pub invariant_of-out : goal.invariant_of-out
+invariant_of-out c =
+    let t = contents c.args.tables.now in
+    record { walkable = (lookable _ c.args.update t (room (goal.at.invariant_of-out c).In_ok-lent) (ranged _ t c.args.update c.in_ok-sent.ensures)).2 }
+
 pub comes_again-requires : goal.comes_again-requires
 comes_again-requires c =
     let t = contents c.args.tables.now in
-    let l = lookable _ c.args.update t (room (goal.at.comes_again-requires c).In_ok-lent) (ranged _ t c.args.update c.in_ok-sent.ensures) in
-    record { in_range = l.0.0; marks_in_bounds = l.0.1; source_in_bounds = l.0.2; chain_in_bounds = l.1.3; steps_fit = l.1.4 }
+    let r = ranged _ t c.args.update c.in_ok-sent.ensures in
+    let l = (lookable _ c.args.update t (room (goal.at.comes_again-requires c).In_ok-lent) r).0 in
+    record { states_fit = l.0; in_range = r; marks_in_bounds = l.1; same_steps = refl }
 
 pub name_again-requires : goal.name_again-requires
 name_again-requires c =
     let t = contents c.args.tables.now in
     let r = (room (goal.at.name_again-requires c).In_ok-lent).long in
     let h = ranged _ t c.args.update c.in_ok-sent.ensures in
-    (in_range_wider _ (length t.status) c.args.update r.status h, in_range_wider _ (length t.marks) c.args.update r.marks h)
+    record { status_in_bounds = in_range_wider _ (length t.status) c.args.update r.status h; marks_in_bounds = in_range_wider _ (length t.marks) c.args.update r.marks h }
 
 pub returns-then-comes_again-clause-promise : goal.returns-then-comes_again-clause-promise
 returns-then-comes_again-clause-promise c =
     let t = contents c.args.tables.now in
-    rw (c.name_again.ensures.0, c.name_again.ensures.1)
+    rw (c.name_again.ensures.named, c.name_again.ensures.marked)
     (again_kept _ c.args.update t (passed (goal.at.returns-then-comes_again-clause-promise c).In_ok-lent) (sym c.in_ok-sent.ensures) (sym c.comes_again.ensures ∙ c.if-comes_again.true))
 
 pub returns-in_err-has_place-clause-promise : goal.returns-in_err-has_place-clause-promise
@@ -87,34 +92,40 @@ list-requires c =
     let t = contents c.args.tables.now in
     let r = room (goal.at.list-requires c).In_ok-lent in
     let l = listable r c.args.update (storable _ t c.args.update r c.in_ok-sent.ensures c.in_ok-has_place.ensures) in
-    record { in_range = (l.0.0, l.0.1, l.0.2); key_fits = l.0.4; place_fits = l.0.3; free = l.1 }
+    record { states_fit = l.0.0; key_fits = l.0.1; from_free = l.1.0; to_free = l.1.1; key_free = l.1.2 }
+
+pub chain-requires : goal.chain-requires
+chain-requires c =
+    let t = contents c.args.tables.now in
+    let r = room (goal.at.chain-requires c).In_ok-lent in
+    let l = chainable r c.args.update (storable _ t c.args.update r c.in_ok-sent.ensures c.in_ok-has_place.ensures) in
+    record { in_head_in_bounds = l.0.0; out_head_in_bounds = l.0.1; in_next_free = l.1.0; out_next_free = l.1.1; place_fits = l.2 }
+
+pub name-requires : goal.name-requires
+name-requires c =
+    let t = contents c.args.tables.now in
+    in_range_wider _ (length t.status) c.args.update (room (goal.at.name-requires c).In_ok-lent).long.status (ranged _ t c.args.update c.in_ok-sent.ensures)
 
 pub mark-requires : goal.mark-requires
 mark-requires c =
     let t = contents c.args.tables.now in
-    let r = room (goal.at.mark-requires c).In_ok-lent in
-    markable r c.args.update (storable _ t c.args.update r c.in_ok-sent.ensures c.in_ok-has_place.ensures)
-
-pub after-self-requires : goal.after-self-requires
-after-self-requires c =
-    let r = room (goal.at.after-self-requires c).In_ok-lent in
-    omega (arith, r.steps, r.bound)
+    in_range_wider _ (length t.marks) c.args.update (room (goal.at.mark-requires c).In_ok-lent).long.marks (ranged _ t c.args.update c.in_ok-sent.ensures)
 
 pub invariant_of-arcs : goal.invariant_of-arcs
 invariant_of-arcs c =
     let t = contents c.args.tables.now in
     let r = room (goal.at.invariant_of-arcs c).In_ok-lent in
-    let m = c.list.new in
-    let k = c.list.auto in
-    record { walkable = walkable r c.args.update (storable _ t c.args.update r c.in_ok-sent.ensures c.in_ok-has_place.ensures) t.from t.in_head t.in_next m.from m.in_head m.in_next r.long.from r.long.in_head r.long.in_next k.from k.in_head k.in_next (ap (λ (g : Graph). g.steps) c.after-self.ensures) }
+    let l = c.list in
+    let k = c.chain in
+    record { walkable = walkable r c.args.update (storable _ t c.args.update r c.in_ok-sent.ensures c.in_ok-has_place.ensures) t.from t.in_head t.in_next l.new.from k.new.in_head k.new.in_next r.long.from r.long.in_head r.long.in_next l.auto.from k.auto.in_head k.auto.in_next (ap (λ (g : Graph). g.steps) c.after-self.ensures) }
 
 pub invariant_of-arcs-2 : goal.invariant_of-arcs-2
 invariant_of-arcs-2 c =
     let t = contents c.args.tables.now in
     let r = room (goal.at.invariant_of-arcs-2 c).In_ok-lent in
-    let m = c.list.new in
-    let k = c.list.auto in
-    record { walkable = walkable r c.args.update (storable _ t c.args.update r c.in_ok-sent.ensures c.in_ok-has_place.ensures) t.to t.out_head t.out_next m.to m.out_head m.out_next r.long.to r.long.out_head r.long.out_next k.to k.out_head k.out_next (ap (λ (g : Graph). g.steps) c.after-self.ensures) }
+    let l = c.list in
+    let k = c.chain in
+    record { walkable = walkable r c.args.update (storable _ t c.args.update r c.in_ok-sent.ensures c.in_ok-has_place.ensures) t.to t.out_head t.out_next l.new.to k.new.out_head k.new.out_next r.long.to r.long.out_head r.long.out_next l.auto.to k.auto.out_head k.auto.out_next (ap (λ (g : Graph). g.steps) c.after-self.ensures) }
 
 pub judge-requires : goal.judge-requires
 judge-requires c =
@@ -122,7 +133,7 @@ judge-requires c =
     record {
       in_range = ranged _ (contents c.args.tables.now) c.args.update c.in_ok-sent.ensures;
       n_fits = r.states;
-      status_in_bounds = rw c.mark.auto.status r.long.status;
+      status_in_bounds = rw c.name.auto.status r.long.status;
       successor_in_bounds = r.long.successor;
       news_in_bounds = r.news;
       queue_in_bounds = r.long.queue;
@@ -135,4 +146,4 @@ returns-clause-promise c =
     let e = c.after-self.ensures in
     rw e
     (done_kept _ c.args.update t (passed (goal.at.returns-clause-promise c).In_ok-lent) (sym c.in_ok-sent.ensures) (sym c.comes_again.ensures ∙ c.if-comes_again.false) (sym c.in_ok-has_place.ensures)
-    (done_of t _ c.args.update c.mark.ensures.1 c.list.ensures refl c.mark.ensures.0 (rw e at c.judge.ensures)))
+    (done_of t _ c.args.update c.mark.ensures (record { sources = c.list.ensures.sources; targets = c.list.ensures.targets; keys = c.list.ensures.keys; chained = c.chain.ensures }) refl c.name.ensures (rw e at c.judge.ensures)))

@@ -2,30 +2,23 @@
 -- Assumes nothing.
 use mathlib.Core.Path.{refl, sym}
 use native.Mathlib.Omega.{arith}
-use Rattle.tables.proofs.Marking.{has-mark}
+use Rattle.std.proofs.Common.{rules}
 use Rattle.search.proofs.Spreading.{begun_queued}
 use Rattle.search.proofs.Walking.{linked_inside}
 use Rattle.engine.specs.Judging.{revived, nears, swept}
-use Rattle.engine.proofs.Acting.{quickened_below, endangered_below}
+use Rattle.engine.proofs.Acting.{quickened_below, endangered_below, judged_lent}
 use Rattle.engine.proofs.accept.judge.Goals as goal
 
-pub begin-starts-requires-clause-has_mark : goal.begin-starts-requires-clause-has_mark
-begin-starts-requires-clause-has_mark c =
-    let a = c.args in
-    has-mark a.arcs.into.n a.visited.now c.in-Some.u (quickened_below _ a.update a.status.now _ c.requires.in_range (sym c.in-Some.ensures)) c.requires.visited_in_bounds
-
-pub begin-starts-requires-clause-start_fits : goal.begin-starts-requires-clause-start_fits
-begin-starts-requires-clause-start_fits c =
-    let a = c.args in
-    omega (arith, quickened_below _ a.update a.status.now _ c.requires.in_range (sym c.in-Some.ensures), c.requires.n_fits)
+pub begin-requires : goal.begin-requires
+begin-requires c = record { in_range = quickened_below _ c.args.update c.args.status.now _ c.requires.in_range (sym c.in-Some.ensures) }
 
 pub revive-requires-clause-queued : goal.revive-requires-clause-queued
 revive-requires-clause-queued c =
     let a = c.args in
-    begun_queued c.begin-starts.ensures a.arcs.into.n (quickened_below _ a.update a.status.now _ c.requires.in_range (sym c.in-Some.ensures)) c.requires.visited_in_bounds c.requires.queue_in_bounds
+    begun_queued c.begin.ensures.begun a.arcs.into.n (quickened_below _ a.update a.status.now _ c.requires.in_range (sym c.in-Some.ensures)) c.requires.visited_in_bounds c.requires.queue_in_bounds
 
 pub returns-in-Some : goal.returns-in-Some
-returns-in-Some c = revived c.in-Some.u (sym c.in-Some.ensures) c.begin-starts.result c.begin-starts.new.visited c.begin-starts.new.queue c.begin-starts.ensures c.revive.ensures
+returns-in-Some c = judged_lent (revived c.in-Some.u (sym c.in-Some.ensures) c.begin.new.self.span c.begin.new.self.visited.now c.begin.new.self.queue.now c.begin.ensures.begun c.revive.ensures.revives) (search rules) (search rules)
 
 pub bounds-status-u : goal.bounds-status-u
 bounds-status-u c =
@@ -57,20 +50,13 @@ returns-in-Some-near_escape c =
     let w = c.in-Some-near_escape.ensures in
     nears c.in-Some-endangered.u c.in-Some-near_escape.p w.0 (sym c.in-Some-endangered.ensures) w.1 (rw (sym c.args.arcs.same_nodes) at w.2) refl refl
 
-pub begin-starts-requires-2-clause-has_mark : goal.begin-starts-requires-2-clause-has_mark
-begin-starts-requires-2-clause-has_mark c =
-    let a = c.args in
-    has-mark a.arcs.into.n a.visited.now c.in-Some-endangered.u (endangered_below _ a.update a.status.now _ c.requires.in_range (sym c.in-Some-endangered.ensures)) c.requires.visited_in_bounds
-
-pub begin-starts-requires-2-clause-start_fits : goal.begin-starts-requires-2-clause-start_fits
-begin-starts-requires-2-clause-start_fits c =
-    let a = c.args in
-    omega (arith, endangered_below _ a.update a.status.now _ c.requires.in_range (sym c.in-Some-endangered.ensures), c.requires.n_fits)
+pub begin-requires-2 : goal.begin-requires-2
+begin-requires-2 c = record { in_range = endangered_below _ c.args.update c.args.status.now _ c.requires.in_range (sym c.in-Some-endangered.ensures) }
 
 pub sweep-requires-clause-queued : goal.sweep-requires-clause-queued
 sweep-requires-clause-queued c =
     let a = c.args in
-    begun_queued c.begin-starts-2.ensures a.arcs.into.n (endangered_below _ a.update a.status.now _ c.requires.in_range (sym c.in-Some-endangered.ensures)) c.requires.visited_in_bounds c.requires.queue_in_bounds
+    begun_queued c.begin-2.ensures.begun a.arcs.into.n (endangered_below _ a.update a.status.now _ c.requires.in_range (sym c.in-Some-endangered.ensures)) c.requires.visited_in_bounds c.requires.queue_in_bounds
 
 pub returns : goal.returns
-returns c = swept c.in-Some-endangered.u (sym c.in-Some-endangered.ensures) c.begin-starts-2.result c.begin-starts-2.new.visited c.begin-starts-2.new.queue c.begin-starts-2.ensures c.sweep.ensures
+returns c = judged_lent (swept c.in-Some-endangered.u (sym c.in-Some-endangered.ensures) c.begin-2.new.self.span c.begin-2.new.self.visited.now c.begin-2.new.self.queue.now c.begin-2.ensures.begun c.sweep.ensures.sweeps) (search rules) (search rules)

@@ -9,11 +9,6 @@ use Rattle.enumeration.proofs.lines.enumerate_ranks.Goals.{then-is_legal, else-i
 pub loop-rank-init : goal.loop-rank-init
 loop-rank-init c = lists_none c.args.lines.now (omega (arith, c.requires))
 
-pub put_history-requires-clause-room : goal.put_history-requires-clause-room
-put_history-requires-clause-room c =
-    let v = c.loop-rank.invariant in
-    omega (arith, c.requires, v.room, v.puts.size)
-
 pub overflow_add-count : goal.overflow_add-count
 overflow_add-count c = omega (arith, c.loop-rank.invariant.counted, ranks_few c.loop-rank.rank)
 

@@ -2,10 +2,8 @@
 -- Assumes nothing.
 use mathlib.Core.Path.{◌≡◌, refl}
 use mathlib.Core.Bool.{cond}
-use native.Mathlib.Omega.{arith}
 use Rattle.record.proofs.Putting.{puts_then}
 use Rattle.picture.specs.Picture.{double_end, single_end}
-use Rattle.picture.proofs.Drawing.{node_length}
 use Rattle.picture.proofs.text.put_node.Goals as goal
 use Rattle.picture.proofs.text.put_node.Goals.{Joined-terminal, then-terminal, else-terminal}
 
@@ -16,13 +14,6 @@ end_is c =
       | then-terminal w ↦ rw (w.if-terminal.true, w.end-is) refl
       | else-terminal w ↦ rw (w.if-terminal.false, w.end-is) refl
     ]
-
-pub put_line-requires : goal.put_line-requires
-put_line-requires c = omega (arith, node_length c.args.state c.args.look.now c.args.terminal)
-
-pub put_bytes-requires : goal.put_bytes-requires
-put_bytes-requires c =
-    rw (end_is (goal.at.put_bytes-requires c).Joined-terminal) (omega (arith, node_length c.args.state c.args.look.now c.args.terminal, c.put_line.ensures.wrote.after, c.put_line.ensures.size))
 
 pub returns : goal.returns
 returns c = puts_then c.put_line.ensures (rw (end_is (goal.at.returns c).Joined-terminal) at c.put_bytes.ensures)

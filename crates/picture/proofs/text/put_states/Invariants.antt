@@ -7,4 +7,4 @@ use Rattle.picture.specs.Picture.{states_text}
 use Rattle.picture.proofs.text.put_states.Given as goal
 
 abbrev pub invariant-loop-s : goal.invariant-loop-s
-invariant-loop-s l = Puts (states_text l.s (λ i. get_or l.status i 0) (λ i. has_terminal (get_or l.marks i 0))) l.initial.text l.text
+invariant-loop-s l = Puts (states_text l.s (λ i. get_or l.shown.status.now i 0) (λ i. has_terminal (get_or l.shown.marks.now i 0))) l.initial.text l.text
