@@ -4,7 +4,7 @@ ghost use Rattle.tables.specs.Tables.{visited_length};
 
 use super::spread::Span;
 
-// Over n nodes: those that the search has met are marked as visited, and stand in the queue's front.
+// Over n nodes. In a spread those that it has met stand in the queue's front, and are marked as visited; in a release those that are released do, and are marked no more. `span` says how many stand there, and between which bounds the spread met them.
 #[derive(Drop)]
 pub struct Worklist<'a> {
     pub n: usize,
