@@ -104,11 +104,11 @@ pub extern "C" fn radvoinis_update(
     let Some(update) = update_of(kind, first, second, by_key) else {
         return code(Err(refused_kind(graph, tables.lengths())));
     };
-    let mut engine = Engine { graph };
-    let answer = engine.update(update, &mut tables);
-    *steps = engine.graph.steps;
+    let engine = Engine { graph };
+    let updated = engine.update(update, &mut tables);
+    *steps = updated.engine.graph.steps;
     // A cast: it is proved to fit, and `try_from` would bring an error that cannot happen.
-    code(answer.map(|count| count as u32))
+    code(updated.answer.map(|count| count as u32))
 }
 
 // The status question. Answers the state's byte, or 65,536 plus the number of a refusal.

@@ -18,10 +18,27 @@ pub struct Engine {
     pub graph: Graph,
 }
 
+// What an update comes to: the state value on which the next one is made, beside the number of its news or its refusal.
+#[derive(Clone, Copy)]
+pub struct Updated {
+    pub engine: Engine,
+    pub answer: Result<usize, Refusal>,
+}
+
 impl Engine {
-    // Makes one update on the tables, and answers the number of its news. Refused, or a close of a closed state, it changes nothing; nor
-    // does a repeated step, but for naming its states.
-    pub fn update(&mut self, update: Update, tables: &mut LentTables) -> Result<usize, Refusal>
+    // Makes one update on the tables. Refused, or a close of a closed state, it changes nothing; nor does a repeated step, but for naming
+    // its states. The state value "goes into each update and comes back, the next call being made on the one before".
+    pub fn update(self, update: Update, tables: &mut LentTables) -> Updated
+        ensures still_lent { StillLent tables.old tables.new }
+        ensures promise { Promise self.graph update (contents tables.old) result.engine.graph result.answer (contents tables.new) }
+    {
+        let mut engine = self;
+        let answer = engine.make(update, tables);
+        Updated { engine, answer }
+    }
+
+    // The same in place, so that a refusal is handed on by `?`.
+    fn make(&mut self, update: Update, tables: &mut LentTables) -> Result<usize, Refusal>
         ensures still_lent { StillLent tables.old tables.new }
         ensures promise { Promise self.old.graph update (contents tables.old) self.new.graph result (contents tables.new) }
     {

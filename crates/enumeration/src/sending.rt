@@ -50,5 +50,6 @@ fn send(rank: usize, engine: &mut Engine, tables: &mut LentTables)
         return;
     }
     send(older(rank), engine, tables);
-    let _ = engine.update(newest(rank), tables);
+    let updated = engine.update(newest(rank), tables);
+    *engine = updated.engine;
 }

@@ -4,10 +4,10 @@ use mathlib.Core.Path.{◌≡◌, refl, sym, ◌∙◌, ap, subst}
 use mathlib.Core.Bool.{true, false, false≢true}
 use mathlib.Core.List.{List, [], ◌∷◌, ◌++◌, append-nil}
 use mathlib.Core.Option.{Option, some, none}
-use Prim.Native.Nat.{ℕ, ◌+◌, ◌<◌}
+use Prim.Native.Nat.{ℕ, ◌+◌, ◌<◌, ◌≤◌}
 use native.Mathlib.Omega.{arith}
 use lib.ListN.{length, get_or}
-use Rattle.gid.specs.Statuses.{status}
+use Rattle.gid.specs.Statuses.{status, status_dead}
 use Rattle.tables.specs.declared.Graph.{Graph}
 use Rattle.tables.specs.Tables.{Tables}
 use Rattle.tables.proofs.Keeping.{tables_same, tables_then}
@@ -37,7 +37,7 @@ use Rattle.reader.proofs.Following.{applies_same, applies_then, items_then, begi
 use Rattle.reader.proofs.Ending.{last_all}
 use Rattle.reader.proofs.Whole.{or_refused}
 use Rattle.reader.proofs.Refusing.{Decided, decides, stops_then}
-use Rattle.query.proofs.Numbers.{head_below}
+use Rattle.query.proofs.Numbers.{head_below, status_few}
 use Rattle.query.specs.Answering.{or_line, head_refusal, answer_of, answer_on, history_up_to, StatusAfter, refused_or, status_code, given, accepted}
 
 -- what decides, by the answer that ended the reading
@@ -198,6 +198,9 @@ module _ (bytes : List ℕ) (s : ℕ) {t t₁ : Tables} {opened : Result Engine 
               let z = begins_stands (omega arith) h (ready_stands opens ready) applied in
               let n : start_of record_graph (items_of lines) ≡ record_start record_limit bytes = ap (start_of record_graph) (sym told) in
               z.fits.status s (omega (arith, z.states, ap (λ (x : Graph). x.n) n, below)) ∙ ap (λ (x : List Item). status (after_items (start_of record_graph x) [] x) s) (sym told)
+
+          pub asks_byte : get_or t₃.status s 0 ≤ status_dead
+          asks_byte = rw judged (status_few (history_of record_limit bytes) s)
 
           pub asks_last : accepted o₂ ≡ Ok (tt {0}) → StatusAfter bytes s t t₃ (get_or t₃.status s 0)
           asks_last e =

@@ -1,3 +1,4 @@
 -- The laws of the status call.
 pub mod Numbers
 pub mod Asking
+mod Rounds

@@ -1,13 +1,16 @@
--- The state that a record's head lets pass is one of the record's.
+-- The state that a record's head lets pass is one of the record's; a status is one of five.
 -- Assumes nothing.
 use mathlib.Core.Path.{◌≡◌, refl}
 use mathlib.Core.Bool.{Bool, true, false, cond}
 use mathlib.Core.List.{List, [], ◌∷◌}
 use mathlib.Core.Option.{Option, some, none}
-use Prim.Native.Nat.{ℕ, ◌<◌}
+use Prim.Native.Nat.{ℕ, ◌<◌, ◌≤◌}
 use lib.Dec.{leb}
 use borrow.Author.Tests.{leb-false}
 use native.Mathlib.Omega.{arith}
+use Rattle.gid.specs.Histories.{History}
+use Rattle.gid.specs.Statuses.{status, status_dead}
+use Rattle.gid.proofs.Statuses.{Classified, classified, as_live, as_dead, as_unknown, as_open, as_unseen}
 use Rattle.record.specs.declared.splitter.Item.{Item}
 use Rattle.record.specs.declared.splitter.Item.TheVariants.{Nothing, Update as Read, Malformed, BadNames, TooMany, States, BadCount}
 use Rattle.record.specs.Items.{count_in}
@@ -32,3 +35,14 @@ head_below limit (BadNames n ∷ l) s e = range_below reader_states s e
 head_below limit (TooMany ∷ l) s e = range_below reader_states s e
 head_below limit (States c ∷ l) s e = range_below c s e
 head_below limit (BadCount ∷ l) s e = absurd (let z : ◌≡◌ {A = ℕ} 0 1 = cc in omega arith)
+
+-- A status is at most 4, below what any refusal answers.
+pub status_few : (h : History) (s : ℕ) → status h s ≤ status_dead
+status_few h s = by (status h s) (classified h s)
+  where
+    by : (k : ℕ) → Classified h s k → k ≤ status_dead
+    by k (as_live e _) = omega arith
+    by k (as_dead e _) = omega arith
+    by k (as_unknown e _ _ _) = omega arith
+    by k (as_open e _ _ _) = omega arith
+    by k (as_unseen e _) = omega arith

@@ -83,7 +83,11 @@ impl Reader {
                 self.engine.graph.n = count;
                 return None;
             }
-            Item::Update(numbered) => (numbered.line, self.engine.update(numbered.update, tables)),
+            Item::Update(numbered) => {
+                let updated = self.engine.update(numbered.update, tables);
+                self.engine = updated.engine;
+                (numbered.line, updated.answer)
+            }
             Item::Malformed(line) => (line, Err(Refusal::Malformed)),
             Item::BadNames(line) => (line, Err(Refusal::BadNames)),
             Item::TooMany => (MAX_LINES + 1, Err(Refusal::TooManyLines)),

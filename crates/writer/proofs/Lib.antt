@@ -6,3 +6,4 @@ pub mod Splits
 pub mod Accepting
 pub mod Members
 pub mod RoundTrip
+mod Lending

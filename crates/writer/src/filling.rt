@@ -1,12 +1,33 @@
-// The bytes of a record, put line by line behind what stands in the buffer.
+// The bytes of a record, put line by line behind what stands in the buffer: each line's writer is lent the rest of it.
 ghost use Rattle.std.specs.Prelude.{◌≤◌, ◌+◌, length};
+ghost use Rattle.gid.specs.declared.Update.{Update};
 ghost use Rattle.record.specs.Putting.{Puts};
-ghost use Rattle.writer.specs.Order.{marked_lines, bytes_of, head_bytes};
+ghost use Rattle.record.specs.Text.{Wrote};
+ghost use Rattle.writer.specs.Order.{marked_lines, line_bytes, bytes_of, head_bytes};
 ghost use Rattle.writer.specs.Sizing.{mark_line, listed_lines, source_record};
 
 use crate::marking::LineMark;
 use crate::source::Source;
+use gid::Update;
 use record::TextBuffer;
+
+// A line's writer: puts an update's line at the front of what it is lent, and answers its length.
+fn write_line(buf: &mut [u8], update: Update) -> usize
+    requires { length (line_bytes update) ≤ length buf.old }
+    ensures { Wrote (line_bytes update) buf.old buf.new result }
+{
+    let mut line = TextBuffer { buf, end: 0 };
+    line.put_update(update);
+    line.end
+}
+
+// An update's line: its writer is lent the rest of the buffer.
+fn put_line(text: &mut TextBuffer, update: Update)
+    requires { text.old.end + length (line_bytes update) ≤ length text.old.buf.now }
+    ensures { Puts (line_bytes update) text.old text.new }
+{
+    text.end += write_line(&mut text.buf[text.end..], update);
+}
 
 // A state's line, where it has one.
 #[tactic(auto, using(crate::proofs::Bytes::line_length, crate::proofs::Bytes::line_size, crate::proofs::Bytes::no_line, record::proofs::Putting::puts_none))]
@@ -15,7 +36,7 @@ fn put_marked(text: &mut TextBuffer, mark: LineMark, byte: u8, state: usize)
     ensures { Puts (bytes_of (mark_line mark byte state)) text.old text.new }
 {
     if mark.is_set(byte) {
-        text.put_update(mark.update(state));
+        put_line(text, mark.update(state));
     }
 }
 
@@ -37,7 +58,7 @@ fn put_steps(text: &mut TextBuffer, source: Source)
     ensures { Puts (bytes_of (listed_lines source.entry)) text.old text.new }
 {
     for p in 0..source.from.len() {
-        text.put_update(source.step(p));
+        put_line(text, source.step(p));
     }
 }
 

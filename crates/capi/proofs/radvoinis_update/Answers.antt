@@ -8,7 +8,7 @@ use Rattle.capi.proofs.Few.{few_news, answered_by}
 use Rattle.capi.proofs.radvoinis_update.Goals as goal
 
 pub map-requires : goal.map-requires
-map-requires c = λ x e p q. let k : news_count c.update-answer.result ≤ max_states = few_news _ c.update-answer.ensures.promise in let few : x ≤ max_states = rw e at k in omega (arith, few)
+map-requires c = λ x e p q. let k : news_count c.update-updated.result.answer ≤ max_states = few_news _ c.update-updated.ensures.promise in let few : x ≤ max_states = rw e at k in omega (arith, few)
 
 pub returns-in_default : goal.returns-in_default
 returns-in_default c = rw (sym c.update_of.ensures ∙ c.in_default.is) (unknown (rw c.lengths.ensures at c.refused_kind.ensures) c.code.ensures)
@@ -16,5 +16,5 @@ returns-in_default c = rw (sym c.update_of.ensures ∙ c.in_default.is) (unknown
 pub returns : goal.returns
 returns c =
     rw (sym c.update_of.ensures ∙ c.in-Some.is)
-    (answered_by c.update-answer.new.tables c.update-answer.ensures.promise refl (search rules)
+    (answered_by c.update-updated.new.tables c.update-updated.ensures.promise refl (search rules)
     (search rules) (search rules) (search rules) (search rules) (search rules) (search rules) (search rules) (search rules) (search rules) (search rules) (search rules) (search rules) (search rules))

@@ -10,4 +10,4 @@ returns-then-rank-eq0-clause-sends t c = sent_none c.args.rank c.if-rank-eq0.tru
 pub returns-clause-sends : goal.returns-clause-sends
 returns-clause-sends t c =
     sent_ranked c.args.rank c.older.result c.newest.result (omega (arith, c.if-rank-eq0.false))
-    c.older.ensures c.newest.ensures c.send.ensures.sends c.update.ensures.promise
+    c.older.ensures c.newest.ensures c.send.ensures.sends c.update-updated.ensures.promise

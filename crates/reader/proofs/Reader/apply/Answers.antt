@@ -5,4 +5,4 @@ use Rattle.reader.proofs.Following.{came_sent}
 use Rattle.reader.proofs.Reader.apply.Goals as goal
 
 pub returns-in-Update-clause-came : goal.returns-in-Update-clause-came
-returns-in-Update-clause-came c = rw c.in-Update.is (came_sent c.update.ensures.promise refl)
+returns-in-Update-clause-came c = rw c.in-Update.is (came_sent c.update-updated.ensures.promise refl)

@@ -9,5 +9,5 @@ use Rattle.writer.proofs.filling.put_steps.Goals as goal
 pub loop-p-preserved : goal.loop-p-preserved
 loop-p-preserved c =
     let s = c.args.source in
-    let line = rw c.step.ensures.right at c.put_update.ensures in
+    let line = rw c.step.ensures.right at c.put_line.ensures in
     rw (order_more (λ p. true) (step_at s.from.now s.to.now s.key.now) c.loop-p.p, bytes_one) (puts_then c.loop-p.invariant line)

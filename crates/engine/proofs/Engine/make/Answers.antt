@@ -1,4 +1,4 @@
--- `Engine::update` keeps its promise: a refusal by one of the tests, an update that comes again, or one that is listed, marked and judged.
+-- `Engine::make` keeps the promise of `Engine::update`: a refusal by one of the tests, an update that comes again, or one that is listed, marked and judged.
 -- Assumes nothing.
 use Rattle.std.proofs.Common.{rules, Err}
 use mathlib.Core.Path.{◌≡◌, refl, sym, ap, ◌∙◌}
@@ -15,8 +15,8 @@ use Rattle.engine.specs.Done.{Room}
 use Rattle.engine.specs.Preparing.{InRange, Storable}
 use Rattle.engine.proofs.Acting.{in_range_wider}
 use Rattle.engine.proofs.Promising.{room_of, passed_of, storable_of, lookable, listable, chainable, walkable, lent_kept, sent_kept, full_kept, again_kept, done_of, done_kept}
-use Rattle.engine.proofs.Engine.update.Goals as goal
-use Rattle.engine.proofs.Engine.update.Goals.{In_ok-lent}
+use Rattle.engine.proofs.Engine.make.Goals as goal
+use Rattle.engine.proofs.Engine.make.Goals.{In_ok-lent}
 
 -- What the tests 1 to 4 answered, of the tables as they came.
 answered : (g : Graph) (t : Tables) {l : Lengths} {n : ℕ} {b : Bool} {k : ℕ} → l ≡ lengths t → n ≡ nodes_of g → b ≡ enough (needs g.n n g.limit l) → k ≡ lent_number g b → lent_number g (long_enough g t) ≡ k

@@ -1,0 +1,9 @@
+-- `put_line` meets its contract.
+-- Assumes nothing.
+use Rattle.std.proofs.Common.{rules}
+use mathlib.Core.Path.{refl}
+use Rattle.writer.proofs.Lending.{put_back}
+use Rattle.writer.proofs.filling.put_line.Goals as goal
+
+pub returns : goal.returns
+returns c = put_back c.requires c.write_line.ensures refl (search rules) refl refl
