@@ -47,7 +47,7 @@ module _ {bytes : List ℕ} {s₀ : Splitter} {g₀ : Graph} {t₀ : Tables} {i 
         by (once first accepts z p) = asks_last_refused bytes s opens ready passes begins same (rw from at first) accepts p b q
         by (twice first accepts lacks last w z) = absurd (omega arith)
 
-    -- After the second round the status is that of the record's history.
+    -- After the second round the state has a status,
     pub asked_long : 2 ≤ i → s < length t.status
     asked_long h = by a
       where
@@ -64,6 +64,7 @@ module _ {bytes : List ℕ} {s₀ : Splitter} {g₀ : Graph} {t₀ : Tables} {i 
         by (once first accepts z p) = absurd (omega arith)
         by (twice first accepts lacks last w z) = asks_byte bytes s opens ready passes begins same (rw from at first) accepts lacks last
 
+    -- which is that of the record's history.
     pub asked_all : 2 ≤ i → StatusAfter bytes s entry t (get_or t.status s 0)
     asked_all h = by a
       where

@@ -8,3 +8,4 @@ pub mod Writing
 pub mod Placing
 pub mod Putting
 pub mod Heading
+pub mod Lending

@@ -2,7 +2,7 @@
 -- Assumes nothing.
 use mathlib.Core.Path.{◌≡◌, refl, sym, ◌∙◌, ap}
 use mathlib.Core.List.{List, [], ◌∷◌, ◌++◌, append_assoc}
-use Prim.Native.Nat.{ℕ, suc, ◌+◌, ◌/◌, ◌≤◌, ◌<◌}
+use Prim.Native.Nat.{ℕ, suc, ◌+◌, ◌/◌, ◌%◌, ◌≤◌, ◌<◌}
 use native.Mathlib.Omega.{arith}
 use native.Mathlib.Numerals.{add-one}
 use lib.ListN.{length, get_or, take, drop, set, length-append}
@@ -12,7 +12,7 @@ use Rattle.gid.specs.declared.Edge.{Edge}
 use Rattle.gid.specs.declared.Update.TheVariants.{Step}
 use Rattle.record.specs.declared.line.Form.TheVariants.{Keyed}
 use Rattle.record.specs.Text.{decimal, keyed, head, field, text, Wrote, WroteAt}
-use Rattle.record.proofs.Decimals.{decimal_more}
+use Rattle.record.proofs.Decimals.{decimal_digit, decimal_more, some_digit}
 
 pub wrote_byte : (b : ℕ) (d : List ℕ) → 0 < length d → Wrote (b ∷ []) d (set d 0 b) 1
 wrote_byte b [] h = absurd (omega arith)
@@ -53,6 +53,13 @@ wrote_at t u d e f r k w a h =
 -- the digits of a number
 pub room_more : (v : ℕ) → 10 ≤ v → length (decimal v) ≡ length (decimal (v / 10)) + 1
 room_more v p = rw (decimal_more v p, length-append) refl
+
+-- the digits of a number: one, or those before the last and one more
+pub wrote_digit : (v : ℕ) (d : List ℕ) → v < 10 → length (decimal v) ≤ length d → Wrote (decimal v) d (set d 0 (48 + v)) 1
+wrote_digit v d p h = rw (decimal_digit v p) (wrote_byte (48 + v) d (omega (arith, h, some_digit v)))
+
+pub wrote_more : (v : ℕ) (d e : List ℕ) (r : ℕ) → 10 ≤ v → Wrote (decimal (v / 10)) d e r → length (decimal v) ≤ length d → Wrote (decimal v) d (set e r (48 + v % 10)) (r + 1)
+wrote_more v d e r p w h = rw (decimal_more v p) (wrote_then (decimal (v / 10)) d e r (48 + v % 10) w (omega (arith, h, room_more v p)))
 
 pub head_length : (kind from : ℕ) → length (head kind from) ≡ length (decimal from) + 3
 head_length kind from = omega (arith, length-append (decimal from) (32 ∷ []))

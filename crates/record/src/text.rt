@@ -3,7 +3,7 @@ ghost use Rattle.std.specs.Prelude.{[], ◌∷◌, ◌++◌, ◌≤◌, ◌<◌,
 ghost use Rattle.gid.specs.declared.Update.{Update};
 ghost use Rattle.std.proofs.Math.Option.{none};
 ghost use Rattle.record.specs.declared.line.Form.TheVariants.{Keyed};
-ghost use Rattle.record.specs.Text.{decimal, head, field, keyed, text};
+ghost use Rattle.record.specs.Text.{decimal, head, field, keyed, text, Wrote};
 ghost use Rattle.record.specs.Putting.{Puts};
 
 use gid::{Edge, Update};
@@ -34,17 +34,11 @@ impl TextBuffer<'_> {
     }
 
     // The decimal text of a number.
-    #[tactic(auto, using(crate::proofs::Decimals::some_digit, crate::proofs::Decimals::decimal_digit, crate::proofs::Decimals::decimal_more, crate::proofs::Writing::room_more, crate::proofs::Putting::puts_then))]
     pub fn put_number(&mut self, value: usize)
         requires { self.old.end + length (decimal value) ≤ length self.old.buf.now }
         ensures { Puts (decimal value) self.old self.new }
     {
-        if value < 10 {
-            // A cast, here and below: it is proved to fit.
-            return self.put_byte(b'0' + value as u8);
-        }
-        self.put_number(value / 10);
-        self.put_byte(b'0' + (value % 10) as u8);
+        self.end += put_digits(&mut self.buf[self.end..], value);
     }
 
     // The line of an update, with its newline: "the writer uses the new line", so it is of the keyed form.
@@ -88,4 +82,20 @@ impl TextBuffer<'_> {
         self.put_number(from);
         self.put_byte(b' ');
     }
+}
+
+// The decimal text of a number at the front of a buffer, and its length. It is lent the buffer alone: a call that is lent the place too has it in memory, and a record of 8,192 steps takes a tenth more to write.
+#[tactic(auto, using(crate::proofs::Decimals::some_digit, crate::proofs::Writing::room_more))]
+fn put_digits(buf: &mut [u8], value: usize) -> usize
+    requires { length (decimal value) ≤ length buf.old }
+    ensures { Wrote (decimal value) buf.old buf.new result }
+{
+    // Casts: they are proved to fit.
+    if value < 10 {
+        buf[0] = b'0' + value as u8;
+        return 1;
+    }
+    let at = put_digits(buf, value / 10);
+    buf[at] = b'0' + (value % 10) as u8;
+    at + 1
 }

@@ -102,7 +102,7 @@ adds_one start i j f t e a =
       deads = count_one start i f 4 t.dead a.deads;
     })
 
--- What a comparison adds, which is 0 or 1, fits beside what the states before it add.
+-- What a comparison adds is 0 or 1.
 pub byte_few : {x : ℕ} (b : Bool) → x ≡ bool_byte b → x ≤ 1
 byte_few true e = omega arith
 byte_few false e = omega arith

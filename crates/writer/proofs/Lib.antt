@@ -6,4 +6,3 @@ pub mod Splits
 pub mod Accepting
 pub mod Members
 pub mod RoundTrip
-mod Lending

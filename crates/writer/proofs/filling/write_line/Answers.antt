@@ -2,7 +2,7 @@
 -- Assumes nothing.
 use Rattle.std.proofs.Common.{rules}
 use mathlib.Core.Path.{refl}
-use Rattle.writer.proofs.Lending.{put_front}
+use Rattle.record.proofs.Lending.{put_front}
 use Rattle.writer.proofs.filling.write_line.Goals as goal
 
 pub returns : goal.returns
