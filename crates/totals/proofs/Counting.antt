@@ -102,6 +102,9 @@ adds_one start i j f t e a =
       deads = count_one start i f 4 t.dead a.deads;
     })
 
+pub one_few : (start i m : ℕ) (f : ℕ → ℕ) (t : Totals) → start ≤ i → i < start + m → Adds start i f t → Few m (with_one (f i) t)
+one_few start i m f t l h a = adds_few start (i + 1) m f (with_one (f i) t) (omega arith) (omega arith) (adds_one start i (i + 1) f t refl a)
+
 -- What a comparison adds is 0 or 1.
 pub byte_few : {x : ℕ} (b : Bool) → x ≡ bool_byte b → x ≤ 1
 byte_few true e = omega arith
